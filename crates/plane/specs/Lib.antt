@@ -1,0 +1,16 @@
+pub mod Sums
+pub mod Multiples
+pub mod Orientation
+pub mod Lists
+pub mod Corners
+pub mod Edges
+pub mod Bounds
+pub mod Code
+pub mod Areas
+pub mod Levels
+pub mod Sights
+pub mod Reply
+pub mod Extents
+pub mod Sides
+pub mod Parity
+pub mod Symmetry
