@@ -1,0 +1,11 @@
+pub mod Areas
+pub mod Orientation
+pub mod Shapes
+pub mod Rows
+pub mod Ways
+pub mod Statements
+pub mod Examples
+pub mod Boxes
+pub mod Looks
+pub mod Paths
+pub mod Refusals
