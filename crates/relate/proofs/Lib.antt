@@ -1,0 +1,10 @@
+pub mod Pairs
+pub mod Edges
+pub mod Walls
+pub mod Starts
+pub mod Sampling
+pub mod Crossed
+pub mod Telling
+pub mod Ways
+pub mod Unmet
+pub mod Examples
