@@ -1,0 +1,9 @@
+pub mod House
+pub mod Promise
+pub mod Sizes
+pub mod Memory
+pub mod Machine
+pub mod Entry
+pub mod Asking
+pub mod History
+pub mod Code

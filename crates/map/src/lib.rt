@@ -1,0 +1,31 @@
+// The map as a machine: one lent memory, one step at a time, and what it promises over any list of commands.
+mod act;
+mod asking;
+mod dropping;
+mod head;
+mod kind;
+mod layout;
+mod listing;
+mod machine;
+mod owner;
+mod point;
+mod promises;
+mod putting;
+mod records;
+mod scanning;
+mod told;
+
+pub use asking::End;
+pub use asking::Request;
+pub use layout::MEMORY_LENGTH;
+pub use machine::step;
+pub use owner::Machine;
+pub use promises::core_is_whole;
+pub use promises::dropped_number_is_gone;
+pub use promises::long_rows_are_refused_alike;
+pub use promises::only_put_numbers_are_told;
+pub use promises::own_is_steady;
+pub use promises::put_ground_stays;
+pub use promises::refused_leaves_no_trace;
+pub use promises::shown_numbers_rise;
+pub use told::Told;
