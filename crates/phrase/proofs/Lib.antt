@@ -1,0 +1,15 @@
+pub mod Coordinates
+pub mod Cutting
+pub mod Digits
+pub mod Division
+pub mod Euclid
+pub mod Greatest
+pub mod Joining
+pub mod Lines
+pub mod Lowest
+pub mod Marks
+pub mod Names
+pub mod ReadBack
+pub mod Rows
+pub mod Sofar
+pub mod Spelling

@@ -1,0 +1,12 @@
+pub mod Answers
+pub mod Commands
+pub mod Grammar
+pub mod Kinds
+pub mod Numbers
+pub mod Points
+pub mod Ratios
+pub mod Reading
+pub mod Rows
+pub mod Ways
+pub mod Words
+pub mod Writing
