@@ -1,0 +1,3 @@
+// What can be said.
+pub const HELP: &[u8] =
+    b"put 1 0 0, 6 0, 6 6, 0 6   a ground under a number: its corners, gone round to the left\ndrop 1                     no longer\nat point 7/2 3             which grounds have a point: whole numbers, fractions or decimals\nat point 7 6 2             the same point: 7/2, 6/2\nhow lie 1, 3               how two grounds lie to each other\nall that lie on 1          all grounds that are not apart from it\narea of 1                  twice its area\nhelp, quit                 what follows a # is passed over\nrefused 1: a point out of range  2: not known yet  3: no such ground  4: there is one already  5: no ground  7: no room\n";
