@@ -1,5 +1,7 @@
 // How quick the machine is over the made-up register: what was counted goes to standard output, and the time that it took to standard error.
 // With a number as its argument it asks so many points of each kind, else a few.
+#![tactic(auto)]
+
 mod measure;
 mod points;
 

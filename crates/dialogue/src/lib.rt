@@ -1,4 +1,6 @@
 // A dialogue with the map: a line is read as a command, asked of the machine, and what came of it is answered as text.
+#![tactic(auto)]
+
 mod answering;
 mod asking;
 mod conversing;

@@ -4,6 +4,8 @@
 //     draw FILE x y step columns rows    columns by rows of squares, step by step ells each, from the south-west corner x, y on
 //
 // The picture goes to standard output; what is wrong, and how far longer work is, to standard error.
+#![tactic(auto)]
+
 mod chart;
 mod order;
 mod painting;

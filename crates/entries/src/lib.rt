@@ -4,6 +4,8 @@
 //     17 POLYGON((120 400, 180 420, 150 470, 120 400))    the same ground as well-known text
 //
 // Spaces and tabs separate; what follows a `#`, and a carriage return at the end, are passed over.
+#![tactic(auto)]
+
 mod cutting;
 mod entry;
 mod fault;

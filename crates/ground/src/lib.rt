@@ -1,4 +1,6 @@
 // One ground: which rows of numbers are grounds, which points they have, the boxes around them, and what is so of all grounds.
+#![tactic(auto)]
+
 mod area;
 mod area_theorems;
 mod bounding;

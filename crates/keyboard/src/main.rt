@@ -1,4 +1,6 @@
 // The map at a keyboard: reads lines from standard input to the end, and answers each before it reads the next.
+#![tactic(auto)]
+
 use dialogue::converse;
 use map::Machine;
 

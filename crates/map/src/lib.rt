@@ -1,4 +1,6 @@
 // The map as a machine: one lent memory, one step at a time, and what it promises over any list of commands.
+#![tactic(auto)]
+
 mod act;
 mod asking;
 mod dropping;

@@ -1,4 +1,6 @@
 // What no contract can say: how two grounds lie, told by the proved way and by one with other code that looks at points only; and grounds that are cut in two.
+#![tactic(auto)]
+
 mod asking;
 mod bordering;
 mod built;

@@ -9,6 +9,8 @@
 //     help        quit
 //
 // Spaces, tabs and commas separate words; what follows a `#`, and a carriage return at the end, are passed over.
+#![tactic(auto)]
+
 mod answer;
 mod command;
 mod fault;

@@ -1,5 +1,7 @@
 // Corners, how three of them turn, and edges: what lies on one, where two meet, and which are crossed on the way to the east.
 // Every answer is exact for all numbers of 64 bits.
+#![tactic(auto)]
+
 mod area;
 mod corner;
 mod edge;

@@ -6,6 +6,8 @@
 //              0   12
 //
 // Row 0 is the northern one. A square shows what its middle has, and nothing else of it.
+#![tactic(auto)]
+
 mod fitting;
 mod flaw;
 mod picture;

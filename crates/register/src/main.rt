@@ -1,4 +1,6 @@
 // A register of grounds: reads it from a file, tells what is wrong in it, and then answers commands, checks it or writes it as well-known text.
+#![tactic(auto)]
+
 mod book;
 mod checking;
 mod loading;

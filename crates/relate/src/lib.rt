@@ -1,4 +1,6 @@
 // Two grounds: how they lie to each other.
+#![tactic(auto)]
+
 mod bounds;
 mod contact;
 mod crossings;

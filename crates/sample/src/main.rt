@@ -1,4 +1,6 @@
 // Writes the made-up register, a line for each ground.
+#![tactic(auto)]
+
 use atlas::{COUNT, Ground, entry};
 use std::io;
 

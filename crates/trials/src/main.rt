@@ -1,4 +1,6 @@
 // What no contract can say: grounds and points by two ways, the proved one and one with other code that looks north and counts how the ring winds; and the machine at its limits.
+#![tactic(auto)]
+
 mod limits;
 mod memory;
 mod random;

@@ -1,4 +1,6 @@
 // Each line of standard input as it is read: the usual form of its command, or `?` where it is none. The gate runs it over a table of odd lines.
+#![tactic(auto)]
+
 use phrase::{NotUnderstood, read_command, write_command};
 use std::alloc::{AllocError, Global};
 use std::io::{BufRead, BufReader, Write};
