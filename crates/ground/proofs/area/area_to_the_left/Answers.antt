@@ -6,8 +6,8 @@ use Rattle.ground.proofs.Rows.{front}
 use Rattle.ground.proofs.Sums.{sum_begins, sum_goes_on, sum_ends, left_small, right_small, no_area, area_so}
 use Rattle.ground.proofs.area.area_to_the_left.Goals as goal
 
-pub returns-in-default : goal.returns-in-default
-returns-in-default c =
+pub returns-in_default : goal.returns-in_default
+returns-in_default c =
     let few : length c.args.row.now < 2 = search rules in
     no_area c.args.row.now few
 

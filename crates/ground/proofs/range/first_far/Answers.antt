@@ -5,18 +5,18 @@ use Rattle.ground.proofs.Fronts.{passed_more, passed_to, passed_all}
 use Rattle.ground.proofs.Grounds.{every_more, every_none, first_far}
 use Rattle.ground.proofs.range.first_far.Goals as goal
 
-pub returns-then-not-in-range : goal.returns-then-not-in-range
-returns-then-not-in-range c =
+pub returns-then-not-in_range : goal.returns-then-not-in_range
+returns-then-not-in_range c =
     let rest = c.loop-rest.rest.now in
     let h : 2 ≤ length rest = search rules in
-    let found = passed_to near_corner _ every_more _ _ _ _ _ (rw (shape_more rest h) at c.loop-rest.invariant.0) (sym c.if-not-in-range.ensures) in
+    let found = passed_to near_corner _ every_more _ _ _ _ _ (rw (shape_more rest h) at c.loop-rest.invariant.0) (sym c.if-not-in_range.ensures) in
     (found.tells, first_far _ _ found)
 
 pub loop-rest-preserved : goal.loop-rest-preserved
 loop-rest-preserved c =
     let rest = c.loop-rest.rest.now in
     let h : 2 ≤ length rest = search rules in
-    (passed_more near_corner _ every_more _ _ _ _ _ (rw (shape_more rest h) at c.loop-rest.invariant.0) (sym c.if-not-in-range.ensures), omega (arith, beyond_length rest))
+    (passed_more near_corner _ every_more _ _ _ _ _ (rw (shape_more rest h) at c.loop-rest.invariant.0) (sym c.if-not-in_range.ensures), omega (arith, beyond_length rest))
 
 pub returns : goal.returns
 returns c =

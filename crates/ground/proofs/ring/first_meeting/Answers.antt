@@ -17,8 +17,8 @@ returns-then-not-joined c =
     let rest = c.loop-rest.rest.now in
     unjoined _ _ _ _ _ _ (fitted_next _ _ _ _ rest _ (search rules) c.loop-rest.invariant.0) (sym c.if-not-joined.ensures)
 
-pub overflow-add-second-in-Some-2 : goal.overflow-add-second-in-Some-2
-overflow-add-second-in-Some-2 c =
+pub overflow_add-second-in-Some-2 : goal.overflow_add-second-in-Some-2
+overflow_add-second-in-Some-2 c =
     let rest = c.loop-rest.rest.now in
     omega (arith, path_many (front rest) (shape_of (beyond rest)), shape_many (beyond rest), beyond_length rest, c.in-Some.ensures.among)
 
@@ -27,18 +27,18 @@ returns-in-Some c =
     let rest = c.loop-rest.rest.now in
     met_between _ _ _ _ _ _ (fitted_next _ _ _ _ rest _ (search rules) c.loop-rest.invariant.0) (sym c.if-not-joined.ensures) _ c.in-Some.ensures
 
-pub returns-then-not-fits-last : goal.returns-then-not-fits-last
-returns-then-not-fits-last c =
+pub returns-then-not-fits_last : goal.returns-then-not-fits_last
+returns-then-not-fits_last c =
     let row = c.args.row.now in
     let rest = c.loop-rest.rest.now in
     subst (Misfit (edges (shape_of row)) c.loop-rest.first) (ring_many row)
-    (met_last _ _ _ _ _ _ (fitted_next _ _ _ _ rest _ (search rules) c.loop-rest.invariant.0) (sym c.if-not-joined.ensures) c.in-default-first-met.ensures (sym c.if-not-fits-last.ensures))
+    (met_last _ _ _ _ _ _ (fitted_next _ _ _ _ rest _ (search rules) c.loop-rest.invariant.0) (sym c.if-not-joined.ensures) c.in_default-first_met.ensures (sym c.if-not-fits_last.ensures))
 
 pub loop-rest-preserved : goal.loop-rest-preserved
 loop-rest-preserved c =
     let rest = c.loop-rest.rest.now in
     let h : 2 ≤ length rest = search rules in (
-      fitted_more _ _ _ _ _ _ (fitted_next _ _ _ _ rest _ h c.loop-rest.invariant.0) (sym c.if-not-joined.ensures) c.in-default-first-met.ensures (sym c.if-not-fits-last.ensures),
+      fitted_more _ _ _ _ _ _ (fitted_next _ _ _ _ rest _ h c.loop-rest.invariant.0) (sym c.if-not-joined.ensures) c.in_default-first_met.ensures (sym c.if-not-fits_last.ensures),
       omega (arith, beyond_length rest),
     )
 

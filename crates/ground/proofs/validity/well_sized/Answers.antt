@@ -6,12 +6,12 @@ use Rattle.ground.proofs.validity.well_sized.Goals as goal
 pub returns-then-row-ne0 : goal.returns-then-row-ne0
 returns-then-row-ne0 c = refuses_odd c.args.row.now (omega arith)
 
-pub returns-then-count-lt-FEWEST-CORNERS : goal.returns-then-count-lt-FEWEST-CORNERS
-returns-then-count-lt-FEWEST-CORNERS c = refuses_few c.args.row.now c.if-row-ne0.false c.if-count-lt-FEWEST-CORNERS.true
+pub returns-then-count-lt-FEWEST_CORNERS : goal.returns-then-count-lt-FEWEST_CORNERS
+returns-then-count-lt-FEWEST_CORNERS c = refuses_few c.args.row.now c.if-row-ne0.false c.if-count-lt-FEWEST_CORNERS.true
 
-pub returns-then-count-gt-MOST-CORNERS : goal.returns-then-count-gt-MOST-CORNERS
-returns-then-count-gt-MOST-CORNERS c = refuses_many c.args.row.now c.if-row-ne0.false c.if-count-gt-MOST-CORNERS.true
+pub returns-then-count-gt-MOST_CORNERS : goal.returns-then-count-gt-MOST_CORNERS
+returns-then-count-gt-MOST_CORNERS c = refuses_many c.args.row.now c.if-row-ne0.false c.if-count-gt-MOST_CORNERS.true
 
 pub returns : goal.returns
 returns c =
-    (sized c.args.row.now c.if-row-ne0.false c.if-count-lt-FEWEST-CORNERS.false c.if-count-gt-MOST-CORNERS.false, sym (shape_many c.args.row.now))
+    (sized c.args.row.now c.if-row-ne0.false c.if-count-lt-FEWEST_CORNERS.false c.if-count-gt-MOST_CORNERS.false, sym (shape_many c.args.row.now))

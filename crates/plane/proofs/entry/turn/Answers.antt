@@ -23,4 +23,4 @@ returns c =
     let a = corner c.args.ax c.args.ay in
     let b = corner c.args.bx c.args.by in
     let d = corner c.args.cx c.args.cy in
-    subst (λ fits. TurnSays a b d fits c.reply-to.result) (fits_all a b d) (picked_says a b d (all_within 2147483648 a b d) c.reply-to.result c.reply-to.ensures)
+    subst (λ fits. TurnSays a b d fits c.reply_to.result) (fits_all a b d) (picked_says a b d (all_within 2147483648 a b d) c.reply_to.result c.reply_to.ensures)

@@ -7,11 +7,11 @@ returns-then-row-eq0 c =
     let w = empty_fits c.args.row.now c.if-row-eq0.true in
     (w.0, w.1, omega arith)
 
-pub returns-then-extent-lt-CORNER-LIMIT-2 : goal.returns-then-extent-lt-CORNER-LIMIT-2
-returns-then-extent-lt-CORNER-LIMIT-2 c =
-    let w = bounds_fit c.args.row.now c.in-ok-extent.extent c.in-ok-extent.ensures c.if-extent-lt-CORNER-LIMIT.true c.if-extent-lt-CORNER-LIMIT-2.true in
-    (w.0, w.1, c.if-extent-lt-CORNER-LIMIT.true)
+pub returns-then-extent-lt-CORNER_LIMIT-2 : goal.returns-then-extent-lt-CORNER_LIMIT-2
+returns-then-extent-lt-CORNER_LIMIT-2 c =
+    let w = bounds_fit c.args.row.now c.in_ok-extent.extent c.in_ok-extent.ensures c.if-extent-lt-CORNER_LIMIT.true c.if-extent-lt-CORNER_LIMIT-2.true in
+    (w.0, w.1, c.if-extent-lt-CORNER_LIMIT.true)
 
-pub returns-else-extent-lt-CORNER-LIMIT : goal.returns-else-extent-lt-CORNER-LIMIT
-returns-else-extent-lt-CORNER-LIMIT c =
-    bounds_far c.args.row.now c.in-ok-extent.extent c.in-ok-extent.ensures c.else-extent-lt-CORNER-LIMIT.either
+pub returns-else-extent-lt-CORNER_LIMIT : goal.returns-else-extent-lt-CORNER_LIMIT
+returns-else-extent-lt-CORNER_LIMIT c =
+    bounds_far c.args.row.now c.in_ok-extent.extent c.in_ok-extent.ensures c.else-extent-lt-CORNER_LIMIT.either

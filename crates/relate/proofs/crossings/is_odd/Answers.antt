@@ -10,8 +10,8 @@ use Rattle.relate.proofs.Rounds.{round_begins}
 use Rattle.relate.proofs.Counting.{unreached, stood_crosses, count_goes_on, count_skips, count_ends, count_none}
 use Rattle.relate.proofs.crossings.is_odd.Goals as goal
 
-pub returns-in-default-row : goal.returns-in-default-row
-returns-in-default-row c =
+pub returns-in_default-row : goal.returns-in_default-row
+returns-in_default-row c =
     let row = c.args.row.now in
     let h : length row < 2 = search rules in
     count_none (λ e. crosses (grown_edge 1048576 e) (corner c.args.a c.args.b)) row h
@@ -23,8 +23,8 @@ loop-rest-init c =
     let near = near_front row h (fits_near row c.requires.0) in
     (round_begins (xors (λ e. crosses (grown_edge 1048576 e) (corner c.args.a c.args.b))) row h, near.0, near.1)
 
-pub loop-rest-preserved-then-not-reaches-over : goal.loop-rest-preserved-then-not-reaches-over
-loop-rest-preserved-then-not-reaches-over c =
+pub loop-rest-preserved-then-not-reaches_over : goal.loop-rest-preserved-then-not-reaches_over
+loop-rest-preserved-then-not-reaches_over c =
     let rest = c.loop-rest.rest.now in
     let h : 2 ≤ length rest = search rules in
     let b = c.args.b in
@@ -32,7 +32,7 @@ loop-rest-preserved-then-not-reaches-over c =
     let near = near_front rest h c.loop-rest.invariant.2 in
     let one = at c.loop-rest.one in (
       count_skips (λ e. crosses (grown_edge 1048576 e) (corner c.args.a b)) c.loop-rest.odd (front c.args.row.now) one rest h
-          (unreached 1048576 (b / 1048576) (edge one (front rest)) (corner c.args.a b) floored (sym c.if-not-reaches-over.ensures))
+          (unreached 1048576 (b / 1048576) (edge one (front rest)) (corner c.args.a b) floored (sym c.if-not-reaches_over.ensures))
           ∙ c.loop-rest.invariant.0,
       near.0,
       near.1,

@@ -10,22 +10,22 @@ pub returns-then-apart : goal.returns-then-apart
 returns-then-apart c =
     let s = shape_of c.args.first.now in
     let t = shape_of c.args.second.now in
-    let one = c.in-ok-one.ensures in
-    let two = c.in-ok-two.ensures in
-    let told : 0 ≡ way_found s t = apart_way s t c.in-ok-one.one c.in-ok-two.two one.1 two.1 (sym c.if-apart.ensures) in
+    let one = c.in_ok-one.ensures in
+    let two = c.in_ok-two.ensures in
+    let told : 0 ≡ way_found s t = apart_way s t c.in_ok-one.one c.in_ok-two.two one.1 two.1 (sym c.if-apart.ensures) in
     record { found = (and_from _ _ one.0 two.0, told); lies = way_lies s t 0 told }
 
 pub way-requires : goal.way-requires
 way-requires c =
-    let one = c.in-ok-one.ensures in
-    let two = c.in-ok-two.ensures in
-    let whole = boxes_whole (shape_of c.args.first.now) (shape_of c.args.second.now) c.in-ok-one.one c.in-ok-two.two one.1 two.1 one.2 two.2 (sym c.if-apart.ensures) in
+    let one = c.in_ok-one.ensures in
+    let two = c.in_ok-two.ensures in
+    let whole = boxes_whole (shape_of c.args.first.now) (shape_of c.args.second.now) c.in_ok-one.one c.in_ok-two.two one.1 two.1 one.2 two.2 (sym c.if-apart.ensures) in
     (and_from _ _ one.0 two.0, (whole.0, whole.1))
 
 pub returns : goal.returns
 returns c =
-    let one = c.in-ok-one.ensures in
-    let two = c.in-ok-two.ensures in
+    let one = c.in_ok-one.ensures in
+    let two = c.in_ok-two.ensures in
     record {
       found = (and_from _ _ one.0 two.0, c.way.ensures);
       lies = way_lies (shape_of c.args.first.now) (shape_of c.args.second.now) (way_number c.way.result) c.way.ensures;

@@ -15,7 +15,7 @@ pub loop-rest-preserved : goal.loop-rest-preserved
 loop-rest-preserved c =
     let rest = c.loop-rest.rest.now in
     let h : 2 ≤ length rest = search rules in
-    rw c.grown-to-extent.ensures (sym (at_more (boxed c.loop-rest.extent) rest h) ∙ c.loop-rest.invariant)
+    rw c.grown_to-extent.ensures (sym (at_more (boxed c.loop-rest.extent) rest h) ∙ c.loop-rest.invariant)
 
 pub returns : goal.returns
 returns c =

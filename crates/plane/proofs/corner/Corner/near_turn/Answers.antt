@@ -4,19 +4,19 @@ use Rattle.plane.proofs.Bounds.{all_within_told}
 use Rattle.plane.proofs.Leaning.{areas_turn}
 use Rattle.plane.proofs.corner.Corner.near_turn.Goals as goal
 
-pub small-area-left-requires : goal.small-area-left-requires
-small-area-left-requires c =
+pub small_area-left-requires : goal.small_area-left-requires
+small_area-left-requires c =
     let p = all_within_told 2147483648 (at c.args.self) (at c.args.b) (at c.args.c) c.requires in
     (2147483648, 2147483648, (p.0.0, p.1.0), (p.0.1, p.2.1), lit< tt)
 
-pub small-area-right-requires : goal.small-area-right-requires
-small-area-right-requires c =
+pub small_area-right-requires : goal.small_area-right-requires
+small_area-right-requires c =
     let p = all_within_told 2147483648 (at c.args.self) (at c.args.b) (at c.args.c) c.requires in
     (2147483648, 2147483648, (p.0.1, p.1.1), (p.0.0, p.2.0), lit< tt)
 
 pub returns : goal.returns
 returns c =
-    let f : SFits w64 c.small-area-left.result = record { sfits = c.small-area-left.type-inv } in
-    let g : SFits w64 c.small-area-right.result = record { sfits = c.small-area-right.type-inv } in
-    areas_turn c.small-area-left.result c.small-area-right.result (at c.args.self) (at c.args.b) (at c.args.c)
-    c.small-area-left.ensures c.small-area-right.ensures c.leaning.result (simp to_z-of_z at c.leaning.ensures)
+    let f : SFits w64 c.small_area-left.result = record { sfits = c.small_area-left.type_inv } in
+    let g : SFits w64 c.small_area-right.result = record { sfits = c.small_area-right.type_inv } in
+    areas_turn c.small_area-left.result c.small_area-right.result (at c.args.self) (at c.args.b) (at c.args.c)
+    c.small_area-left.ensures c.small_area-right.ensures c.leaning.result (simp to_z-of_z at c.leaning.ensures)

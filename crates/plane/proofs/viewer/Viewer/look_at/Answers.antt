@@ -4,4 +4,4 @@ use Rattle.plane.proofs.Views.{seen_reversed}
 use Rattle.plane.proofs.viewer.Viewer.look_at.Goals as goal
 
 pub returns-else-e : goal.returns-else-e
-returns-else-e c = seen_reversed c.args.self.scale (along c.args.e) (place c.args.self) c.look-up-else-e.result c.look-up-else-e.ensures
+returns-else-e c = seen_reversed c.args.self.scale (along c.args.e) (place c.args.self) c.look_up-else-e.result c.look_up-else-e.ensures

@@ -5,22 +5,22 @@ use Rattle.plane.proofs.Leaning.{grown_turn}
 use Rattle.plane.proofs.Bounds.{within_told, grown_below}
 use Rattle.plane.proofs.viewer.Viewer.side.Goals as goal
 
-pub small-area-left-requires : goal.small-area-left-requires
-small-area-left-requires c =
+pub small_area-left-requires : goal.small_area-left-requires
+small_area-left-requires c =
     let low = within_told 1048576 (at c.args.low) c.requires.0 in
     let high = within_told 1048576 (at c.args.high) c.requires.1 in
     (1048576, 4398046511104, (low.0, high.0), (grown_below c.args.self.scale c.args.low.y c.args.self.parted.1 low.1, omega arith), lit< tt)
 
-pub small-area-right-requires : goal.small-area-right-requires
-small-area-right-requires c =
+pub small_area-right-requires : goal.small_area-right-requires
+small_area-right-requires c =
     let low = within_told 1048576 (at c.args.low) c.requires.0 in
     let high = within_told 1048576 (at c.args.high) c.requires.1 in
     (1048576, 4398046511104, (low.1, high.1), (grown_below c.args.self.scale c.args.low.x c.args.self.parted.1 low.0, omega arith), lit< tt)
 
 pub returns : goal.returns
 returns c =
-    let f : SFits w64 c.small-area-left.result = record { sfits = c.small-area-left.type-inv } in
-    let g : SFits w64 c.small-area-right.result = record { sfits = c.small-area-right.type-inv } in
-    grown_turn c.small-area-left.result c.small-area-right.result c.args.self.scale c.args.self.parted.0 (at c.args.low)
-    (at c.args.high) (place c.args.self) c.small-area-left.ensures c.small-area-right.ensures c.leaning.result
+    let f : SFits w64 c.small_area-left.result = record { sfits = c.small_area-left.type_inv } in
+    let g : SFits w64 c.small_area-right.result = record { sfits = c.small_area-right.type_inv } in
+    grown_turn c.small_area-left.result c.small_area-right.result c.args.self.scale c.args.self.parted.0 (at c.args.low)
+    (at c.args.high) (place c.args.self) c.small_area-left.ensures c.small_area-right.ensures c.leaning.result
     (simp to_z-of_z at c.leaning.ensures)

@@ -7,8 +7,8 @@ use Rattle.relate.proofs.Rounds.{round_begins}
 use Rattle.relate.proofs.Contacts.{contact_of, contact_goes_on, contact_ends, contact_none, contact_skips, contact_stops, level_apart}
 use Rattle.relate.proofs.contact.Contact.along.Goals as goal
 
-pub returns-in-default : goal.returns-in-default
-returns-in-default c =
+pub returns-in_default : goal.returns-in_default
+returns-in_default c =
     let row = c.args.row.now in
     let h : length row < 2 = search rules in
     contact_none (cross_over (along c.args.e)) (meet (along c.args.e)) row h
@@ -19,22 +19,22 @@ loop-rest-init c =
     let h : 2 ≤ length row = search rules in
     round_begins (contact_of (cross_over (along c.args.e)) (meet (along c.args.e))) row h
 
-pub loop-rest-preserved-then-heights-apart : goal.loop-rest-preserved-then-heights-apart
-loop-rest-preserved-then-heights-apart c =
+pub loop-rest-preserved-then-heights_apart : goal.loop-rest-preserved-then-heights_apart
+loop-rest-preserved-then-heights_apart c =
     let rest = c.loop-rest.rest.now in
     let h : 2 ≤ length rest = search rules in
     let e = along c.args.e in
     contact_skips (cross_over e) (meet e) c.loop-rest.contact (front c.args.row.now) (at c.loop-rest.one) rest h
-    (level_apart e (edge (at c.loop-rest.one) (front rest)) (sym c.if-heights-apart.ensures))
+    (level_apart e (edge (at c.loop-rest.one) (front rest)) (sym c.if-heights_apart.ensures))
     ∙ c.loop-rest.invariant
 
-pub returns-then-is-crossing : goal.returns-then-is-crossing
-returns-then-is-crossing c =
+pub returns-then-is_crossing : goal.returns-then-is_crossing
+returns-then-is_crossing c =
     let rest = c.loop-rest.rest.now in
     let h : 2 ≤ length rest = search rules in
     let e = along c.args.e in
     contact_stops (cross_over e) (meet e) c.loop-rest.contact c.joined-contact.result (front c.args.row.now) (at c.loop-rest.one) rest h
-    (c.joined-contact.ensures ∙ ap (joined c.loop-rest.contact) c.between.ensures) (sym c.if-is-crossing.ensures)
+    (c.joined-contact.ensures ∙ ap (joined c.loop-rest.contact) c.between.ensures) (sym c.if-is_crossing.ensures)
     ∙ c.loop-rest.invariant
 
 pub loop-rest-preserved : goal.loop-rest-preserved

@@ -12,9 +12,9 @@ use Rattle.relate.proofs.Rounds.{round_begins}
 use Rattle.relate.proofs.Contacts.{contact_of, contact_goes_on, contact_ends, contact_none, contact_stops}
 use Rattle.relate.proofs.contact.Contact.of_rings.Goals as goal
 
-pub returns-in-default : goal.returns-in-default
+pub returns-in_default : goal.returns-in_default
 unfolding crossing meeting
-returns-in-default c =
+returns-in_default c =
     let row = c.args.first.now in
     let es = edges (shape_of c.args.second.now) in
     let h : length row < 2 = search rules in
@@ -27,14 +27,14 @@ loop-rest-init c =
     let h : 2 ≤ length row = search rules in
     round_begins (contact_of (λ e. any (cross_over e) es) (λ e. any (meet e) es)) row h
 
-pub returns-then-is-crossing : goal.returns-then-is-crossing
+pub returns-then-is_crossing : goal.returns-then-is_crossing
 unfolding crossing meeting
-returns-then-is-crossing c =
+returns-then-is_crossing c =
     let rest = c.loop-rest.rest.now in
     let h : 2 ≤ length rest = search rules in
     let es = edges (shape_of c.args.second.now) in
     contact_stops (λ e. any (cross_over e) es) (λ e. any (meet e) es) c.loop-rest.contact c.joined-contact.result (front c.args.first.now) (at c.loop-rest.one) rest h
-    (c.joined-contact.ensures ∙ ap (joined c.loop-rest.contact) c.near.ensures) (sym c.if-is-crossing.ensures)
+    (c.joined-contact.ensures ∙ ap (joined c.loop-rest.contact) c.near.ensures) (sym c.if-is_crossing.ensures)
     ∙ c.loop-rest.invariant
 
 pub loop-rest-preserved : goal.loop-rest-preserved

@@ -7,7 +7,7 @@ use Rattle.relate.proofs.parities.Parities.along.Goals as goal
 
 pub loop-rest-init : goal.loop-rest-init
 loop-rest-init c = (
-  parities_begin (shape_of c.args.row.now) (along c.args.e) c.parity-after.result c.of-seen.result c.requires.1.1 c.parity-after.ensures c.of-seen.ensures,
+  parities_begin (shape_of c.args.row.now) (along c.args.e) c.parity_after.result c.of-seen.result c.requires.1.1 c.parity_after.ensures c.of-seen.ensures,
   fits_near c.args.row.now c.requires.0,
 )
 
@@ -15,13 +15,13 @@ pub later-requires : goal.later-requires
 later-requires c =
     let rest = c.loop-rest.rest.now in
     let h : 2 ≤ length rest = search rules in
-    (c.requires.0, (c.requires.1.0, ((near_front rest h c.loop-rest.invariant.1).0, sym c.if-not-goes-on.ensures)))
+    (c.requires.0, (c.requires.1.0, ((near_front rest h c.loop-rest.invariant.1).0, sym c.if-not-goes_on.ensures)))
 
-pub loop-rest-preserved-then-not-goes-on : goal.loop-rest-preserved-then-not-goes-on
-loop-rest-preserved-then-not-goes-on c =
+pub loop-rest-preserved-then-not-goes_on : goal.loop-rest-preserved-then-not-goes_on
+loop-rest-preserved-then-not-goes_on c =
     let rest = c.loop-rest.rest.now in
     let h : 2 ≤ length rest = search rules in (
-      parities_skip (shape_of c.args.row.now) (along c.args.e) c.loop-rest.seen rest h (sym c.if-not-goes-on.ensures) ∙ c.loop-rest.invariant.0,
+      parities_skip (shape_of c.args.row.now) (along c.args.e) c.loop-rest.seen rest h (sym c.if-not-goes_on.ensures) ∙ c.loop-rest.invariant.0,
       (near_front rest h c.loop-rest.invariant.1).1,
     )
 

@@ -6,8 +6,8 @@ use Rattle.relate.proofs.Ranges.{fits_near, near_front, near_between}
 use Rattle.relate.proofs.Beside.{sides_begin, sides_empty, sides_go_on, sides_stop, sides_end}
 use Rattle.relate.proofs.sides.Sides.along.Goals as goal
 
-pub returns-in-default : goal.returns-in-default
-returns-in-default c =
+pub returns-in_default : goal.returns-in_default
+returns-in_default c =
     let ring = c.args.ring.now in
     let h : length ring < 2 = search rules in
     sides_empty (shape_of c.args.row.now) c.args.self ring h
