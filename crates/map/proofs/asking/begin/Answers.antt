@@ -32,4 +32,4 @@ returns-in-AreaOf c =
 pub returns-in-Put : goal.returns-in-Put
 returns-in-Put c =
     by_request _ _ _ _ _ _ _ c.in-Put.is
-    (fitting_put c.args.memory.now c.in-Put.row.now c.handed-row.result.now c.args.out.now c.in-Put.number _ _ _ c.requires.0 c.requires.1 c.handed-row.ensures c.step.ensures)
+    (fitting_put c.args.memory.now c.in-Put.row.now c.handed_row.result.now c.args.out.now c.in-Put.number _ _ _ c.requires.0 c.requires.1 c.handed_row.ensures c.step.ensures)

@@ -3,16 +3,16 @@ use Rattle.map.specs.Machine.{acts, drop_step}
 use Rattle.map.proofs.Removals.{found_some, moved_over}
 use Rattle.map.proofs.dropping.drop_ground.Goals as goal
 
-pub returns-in-default : goal.returns-in-default
+pub returns-in_default : goal.returns-in_default
 unfolding acts drop_step
-returns-in-default c = search rules
+returns-in_default c = search rules
 
-pub returns-in-default-records-behind : goal.returns-in-default-records-behind
+pub returns-in_default-records_behind : goal.returns-in_default-records_behind
 unfolding acts drop_step
-returns-in-default-records-behind c = search rules
+returns-in_default-records_behind c = search rules
 
-pub overflow-sub-grounds : goal.overflow-sub-grounds
-overflow-sub-grounds c = search (rules, found_some)
+pub overflow_sub-grounds : goal.overflow_sub-grounds
+overflow_sub-grounds c = search (rules, found_some)
 
 pub returns : goal.returns
 unfolding acts drop_step

@@ -6,9 +6,9 @@ pub returns-then-cursor-eq0 : goal.returns-then-cursor-eq0
 unfolding acts next_step
 returns-then-cursor-eq0 c = search rules
 
-pub returns-then-not-in-range : goal.returns-then-not-in-range
+pub returns-then-not-in_range : goal.returns-then-not-in_range
 unfolding acts next_step
-returns-then-not-in-range c = search rules
+returns-then-not-in_range c = search rules
 
 pub returns : goal.returns
 unfolding acts next_step

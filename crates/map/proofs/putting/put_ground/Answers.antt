@@ -4,17 +4,17 @@ use Rattle.ground.proofs.Closing.{shape_many}
 use Rattle.map.proofs.Insertions.{put_record}
 use Rattle.map.proofs.putting.put_ground.Goals as goal
 
-pub returns-in-default : goal.returns-in-default
+pub returns-in_default : goal.returns-in_default
 unfolding acts put_step
-returns-in-default c = search rules
+returns-in_default c = search rules
 
-pub returns-in-default-ground-box : goal.returns-in-default-ground-box
+pub returns-in_default-ground_box : goal.returns-in_default-ground_box
 unfolding acts put_step
-returns-in-default-ground-box c = search rules
+returns-in_default-ground_box c = search rules
 
-pub returns-in-default-end-with-room : goal.returns-in-default-end-with-room
+pub returns-in_default-end_with_room : goal.returns-in_default-end_with_room
 unfolding acts put_step
-returns-in-default-end-with-room c = let n = shape_many c.args.row.now in search rules
+returns-in_default-end_with_room c = let n = shape_many c.args.row.now in search rules
 
 pub returns : goal.returns
 unfolding acts put_step

@@ -3,8 +3,8 @@ use Rattle.std.proofs.lemmas.Bool.Decides.{nat_tests}
 use Rattle.map.proofs.Walks.{seek_step, seek_end}
 use Rattle.map.proofs.records.seek.Goals as goal
 
-pub returns-in-default : goal.returns-in-default
-returns-in-default c = grind (arith, nat_tests, seek_step)
+pub returns-in_default : goal.returns-in_default
+returns-in_default c = grind (arith, nat_tests, seek_step)
 
 pub returns-in-Equal : goal.returns-in-Equal
 returns-in-Equal c = grind (arith, nat_tests, seek_step)
