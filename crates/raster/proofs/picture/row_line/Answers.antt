@@ -5,7 +5,7 @@ use Rattle.raster.proofs.picture.row_line.Goals as goal
 
 pub returns : goal.returns
 returns c =
-    let bar = behind c.in-ok-extend-from-slice.ensures.items c.in-ok-line.ensures refl in
-    let signs = behind c.in-ok-extend-from-slice-2.ensures.items bar refl in
-    behind c.in-ok-extend-from-slice-3.ensures.items signs refl
+    let bar = behind c.in_ok-extend_from_slice.ensures.items c.in_ok-line.ensures refl in
+    let signs = behind c.in_ok-extend_from_slice-2.ensures.items bar refl in
+    behind c.in_ok-extend_from_slice-3.ensures.items signs refl
     ∙ four_pieces (margin c.args.window c.args.row) (codes " |") c.args.signs.now (codes "|\n")
