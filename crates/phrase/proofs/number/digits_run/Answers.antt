@@ -4,14 +4,14 @@ use Rattle.phrase.specs.Numbers.{run}
 use Rattle.phrase.proofs.Digits.{run_end, run_digit, run_odd}
 use Rattle.phrase.proofs.number.digits_run.Goals as goal
 
-pub returns-then-not-is-ascii-digit : goal.returns-then-not-is-ascii-digit
-returns-then-not-is-ascii-digit c =
-    let here = at_drop_more run c.args.word.now c.loop-i.i 0 c.loop-i-test.true ∙ run_odd _ _ (sym c.if-not-is-ascii-digit.ensures.value) in
+pub returns-then-not-is_ascii_digit : goal.returns-then-not-is_ascii_digit
+returns-then-not-is_ascii_digit c =
+    let here = at_drop_more run c.args.word.now c.loop-i.i 0 c.loop-i-test.true ∙ run_odd _ _ (sym c.if-not-is_ascii_digit.ensures.value) in
     record { within = omega arith; value = omega (arith, here, c.loop-i.invariant) }
 
 pub loop-i-preserved : goal.loop-i-preserved
 loop-i-preserved c =
-    let here = at_drop_more run c.args.word.now c.loop-i.i 0 c.loop-i-test.true ∙ run_digit _ _ (sym c.if-not-is-ascii-digit.ensures.value) in
+    let here = at_drop_more run c.args.word.now c.loop-i.i 0 c.loop-i-test.true ∙ run_digit _ _ (sym c.if-not-is_ascii_digit.ensures.value) in
     omega (arith, here, c.loop-i.invariant)
 
 pub returns : goal.returns

@@ -3,16 +3,16 @@ use Rattle.phrase.specs.Ratios.{places}
 use Rattle.phrase.proofs.Division.{place_small, places_more, places_end, places_done}
 use Rattle.phrase.proofs.ratio.add_places.Goals as goal
 
-pub overflow-cast-left-in-loop-turns : goal.overflow-cast-left-in-loop-turns
-overflow-cast-left-in-loop-turns c = omega (arith, place_small c.loop-turns.left c.args.under c.loop-turns.invariant.0)
+pub overflow_cast-left-in-loop-turns : goal.overflow_cast-left-in-loop-turns
+overflow_cast-left-in-loop-turns c = omega (arith, place_small c.loop-turns.left c.args.under c.loop-turns.invariant.0)
 
-pub overflow-add-left : goal.overflow-add-left
-overflow-add-left c = omega (arith, place_small c.loop-turns.left c.args.under c.loop-turns.invariant.0)
+pub overflow_add-left : goal.overflow_add-left
+overflow_add-left c = omega (arith, place_small c.loop-turns.left c.args.under c.loop-turns.invariant.0)
 
 pub loop-turns-preserved : goal.loop-turns-preserved
 loop-turns-preserved c = (
   mod-lt _ (omega arith),
-  ap (λ bs. bs ++ places (c.loop-turns.turns - 1) (c.loop-turns.left * 10 % c.args.under) c.args.under) c.in-ok-push.ensures.items
+  ap (λ bs. bs ++ places (c.loop-turns.turns - 1) (c.loop-turns.left * 10 % c.args.under) c.args.under) c.in_ok-push.ensures.items
       ∙ places_more c.loop-turns.turns c.loop-turns.left c.args.under _ (omega arith) (λ e. omega arith)
       ∙ c.loop-turns.invariant.1,
 )

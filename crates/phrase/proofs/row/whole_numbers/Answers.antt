@@ -7,12 +7,12 @@ use Rattle.phrase.proofs.row.whole_numbers.Goals as goal
 pub loop-word-init : goal.loop-word-init
 loop-word-init c = ap (λ xs. prefixed xs (wholes c.args.words.now)) c.new-row.ensures.items ∙ none_before _
 
-pub returns-in-default : goal.returns-in-default
-returns-in-default c = sym c.loop-word.invariant ∙ row_stops c.args.words.now c.loop-word.word-index _ _ c.loop-word-test.true c.in-default.not-Whole
+pub returns-in_default : goal.returns-in_default
+returns-in_default c = sym c.loop-word.invariant ∙ row_stops c.args.words.now c.loop-word.word-index _ _ c.loop-word-test.true c.in_default.not-Whole
 
 pub loop-word-preserved : goal.loop-word-preserved
 loop-word-preserved c =
-    ap (λ xs. prefixed xs (wholes (drop (c.loop-word.word-index + 1) c.args.words.now))) c.in-ok-push.ensures.items
+    ap (λ xs. prefixed xs (wholes (drop (c.loop-word.word-index + 1) c.args.words.now))) c.in_ok-push.ensures.items
     ∙ row_more c.args.words.now c.loop-word.word-index _ _ c.loop-word-test.true _ c.in-Whole.is
     ∙ c.loop-word.invariant
 

@@ -4,6 +4,6 @@ use Rattle.phrase.proofs.tell.numbers_or_none.Goals as goal
 
 pub returns : goal.returns
 returns c =
-    let first = ap vec_items c.into-bytes-out.ensures.value ∙ c.in-ok-format.ensures.ok in
-    let rest = c.as-slice.ensures.value ∙ c.in-ok-more-numbers.ensures in
-    behind c.in-ok-extend-from-slice.ensures.items first rest ∙ some_numbers c.args.numbers.now (omega (arith, false-eqb _ 0 c.if-is-empty.ensures))
+    let first = ap vec_items c.into_bytes-out.ensures.value ∙ c.in_ok-format.ensures.ok in
+    let rest = c.as_slice.ensures.value ∙ c.in_ok-more_numbers.ensures in
+    behind c.in_ok-extend_from_slice.ensures.items first rest ∙ some_numbers c.args.numbers.now (omega (arith, false-eqb _ 0 c.if-is_empty.ensures))
