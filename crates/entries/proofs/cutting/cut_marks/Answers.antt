@@ -10,21 +10,21 @@ loop-i-preserved-then-not-separates c = (
   word_goes_on c.args.text.now c.loop-i.start c.loop-i.i _ _ c.loop-i-test.true c.loop-i.invariant.1 c.loop-i.invariant.0 c.if-not-separates.ensures,
 )
 
-pub returns-in-err-close : goal.returns-in-err-close
-returns-in-err-close c =
-    handed_on _ _ (marks [] c.args.text.now) vec_items c.from-residual.ensures.1
-    (word_fails c.args.text.now c.loop-i.start c.loop-i.i _ _ c.loop-i-test.true c.loop-i.invariant.1 _ _ vec_items c.if-not-separates.ensures c.in-err-close.ensures)
+pub returns-in_err-close : goal.returns-in_err-close
+returns-in_err-close c =
+    handed_on _ _ (marks [] c.args.text.now) vec_items c.from_residual.ensures.1
+    (word_fails c.args.text.now c.loop-i.start c.loop-i.i _ _ c.loop-i-test.true c.loop-i.invariant.1 _ _ vec_items c.if-not-separates.ensures c.in_err-close.ensures)
 
 pub loop-i-preserved : goal.loop-i-preserved
 loop-i-preserved c = (
   omega arith,
-  word_ends c.args.text.now c.loop-i.start c.loop-i.i _ _ c.loop-i-test.true c.loop-i.invariant.1 _ _ c.if-not-separates.ensures c.in-ok-close.ensures c.in-ok-add-sign.ensures,
+  word_ends c.args.text.now c.loop-i.start c.loop-i.i _ _ c.loop-i-test.true c.loop-i.invariant.1 _ _ c.if-not-separates.ensures c.in_ok-close.ensures c.in_ok-add_sign.ensures,
 )
 
-pub returns-in-err-close-2 : goal.returns-in-err-close-2
-returns-in-err-close-2 c =
-    handed_on _ _ (marks [] c.args.text.now) vec_items c.from-residual-in-err-close-2.ensures.1
-    (last_fails c.args.text.now c.loop-i.start c.loop-i.i _ _ c.loop-i-test.false (omega arith) c.loop-i.invariant.1 _ _ vec_items c.in-err-close-2.ensures)
+pub returns-in_err-close-2 : goal.returns-in_err-close-2
+returns-in_err-close-2 c =
+    handed_on _ _ (marks [] c.args.text.now) vec_items c.from_residual-in_err-close-2.ensures.1
+    (last_fails c.args.text.now c.loop-i.start c.loop-i.i _ _ c.loop-i-test.false (omega arith) c.loop-i.invariant.1 _ _ vec_items c.in_err-close-2.ensures)
 
 pub returns : goal.returns
-returns c = last_ends c.args.text.now c.loop-i.start c.loop-i.i _ _ c.loop-i-test.false (omega arith) c.loop-i.invariant.1 _ c.in-ok-close-2.ensures
+returns c = last_ends c.args.text.now c.loop-i.start c.loop-i.i _ _ c.loop-i-test.false (omega arith) c.loop-i.invariant.1 _ c.in_ok-close-2.ensures

@@ -2,14 +2,14 @@ use Rattle.std.proofs.Common.{arith}
 use Rattle.phrase.proofs.Cutting.{stop_here, pass_on, pass_all}
 use Rattle.entries.proofs.cutting.plain_length.Goals as goal
 
-pub returns-then-ends-here : goal.returns-then-ends-here
-returns-then-ends-here c = record {
+pub returns-then-ends_here : goal.returns-then-ends_here
+returns-then-ends_here c = record {
   within = omega arith;
-  value = stop_here c.args.line.now _ c.loop-i-test.true c.if-ends-here.ensures c.loop-i.invariant;
+  value = stop_here c.args.line.now _ c.loop-i-test.true c.if-ends_here.ensures c.loop-i.invariant;
 }
 
 pub loop-i-preserved : goal.loop-i-preserved
-loop-i-preserved c = pass_on c.args.line.now _ c.loop-i-test.true c.if-ends-here.ensures c.loop-i.invariant
+loop-i-preserved c = pass_on c.args.line.now _ c.loop-i-test.true c.if-ends_here.ensures c.loop-i.invariant
 
 pub returns : goal.returns
 returns c = record {

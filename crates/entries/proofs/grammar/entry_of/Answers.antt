@@ -5,16 +5,16 @@ use Rattle.entries.proofs.Fronts.{behind_number}
 use Rattle.entries.proofs.Sofar.{handed_on, part_fails}
 use Rattle.entries.proofs.grammar.entry_of.Goals as goal
 
-pub returns-in-err-row : goal.returns-in-err-row
-returns-in-err-row c =
+pub returns-in_err-row : goal.returns-in_err-row
+returns-in_err-row c =
     let some : 0 < length c.args.marks.now = search rules in
     let split = behind_number c.args.marks.now _ some _ c.in-Number.is ∙ ap (λ ms. then (row_of ms) (λ row. Ok (ground c.in-Number.number row))) (sym c.after_colon.ensures) in
-    handed_on _ _ (entry_of c.args.marks.now) entry_said c.from-residual.ensures.1
-    (part_fails _ _ vec_items (λ row. Ok (ground c.in-Number.number row)) entry_said split c.in-err-row.ensures)
+    handed_on _ _ (entry_of c.args.marks.now) entry_said c.from_residual.ensures.1
+    (part_fails _ _ vec_items (λ row. Ok (ground c.in-Number.number row)) entry_said split c.in_err-row.ensures)
 
 pub returns : goal.returns
 returns c =
     let some : 0 < length c.args.marks.now = search rules in
     behind_number c.args.marks.now _ some _ c.in-Number.is
     ∙ ap (λ ms. then (row_of ms) (λ row. Ok (ground c.in-Number.number row))) (sym c.after_colon.ensures)
-    ∙ ap (λ o. then o (λ row. Ok (ground c.in-Number.number row))) c.in-ok-row.ensures
+    ∙ ap (λ o. then o (λ row. Ok (ground c.in-Number.number row))) c.in_ok-row.ensures

@@ -10,4 +10,4 @@ decides true P h = (λ _. h, λ _. refl)
 decides false P h = (λ e. let z : ◌≡◌ {A = ℕ} 0 1 = cc in absurd (omega arith), λ p. absurd (h p))
 
 pub returns : goal.returns
-returns c = same_from_decides _ _ (decides _ _ (cases_from_iff c.eq-ignore-ascii-case.ensures.test)) (bytes_eq-Decides _ _)
+returns c = same_from_decides _ _ (decides _ _ (cases_from_iff c.eq_ignore_ascii_case.ensures.test)) (bytes_eq-Decides _ _)
