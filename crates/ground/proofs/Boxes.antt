@@ -1,11 +1,11 @@
 -- Bounding boxes: a box that grows corner by corner is the box of them all, and the box of a point tells where the point lies.
-use Rattle.std.proofs.Common.{◌≡◌, ℕ, zero, suc, ◌+◌, ◌*◌, ◌/◌, ◌%◌, ◌<◌, ◌≤◌, min, max, Bool, true, false, ◌&&◌, eqb, ltb, leb, List, [], ◌∷◌, sym, refl, ap, ◌∙◌, ⊎_elim, arith}
+use Rattle.std.proofs.Common.{◌≡◌, ℕ, ◌+◌, ◌*◌, ◌/◌, ◌%◌, ◌<◌, ◌≤◌, min, max, true, ◌&&◌, leb, [], ◌∷◌, refl, ◌∙◌, ⊎_elim, arith}
 use Rattle.std.proofs.lemmas.Bool.Decides.{nat_tests}
 use Rattle.std.proofs.lemmas.Bool.{cases_lt}
 use Rattle.std.proofs.lemmas.Nat.{div-add-mod', mod_below, mul-le}
-use Rattle.plane.specs.Lists.{every, any, or}
-use Rattle.plane.specs.Corners.{Corner, corner, smaller, larger}
-use Rattle.ground.specs.Shapes.{Point, Shape}
+use Rattle.plane.specs.Lists.{every}
+use Rattle.plane.specs.Corners.{Corner, smaller, larger}
+use Rattle.ground.specs.Shapes.{Shape}
 use Rattle.ground.specs.Rows.{least, greatest}
 use Rattle.ground.specs.Boxes.{box_of, grown_to, box_around, raised, holds, in_box}
 use Rattle.ground.specs.declared.bounding.Extent.{Extent}

@@ -1,12 +1,11 @@
 -- Which rows are grounds: each fault that is found makes the row none, and without faults it is one.
-use Rattle.std.proofs.Common.{◌≡◌, ℕ, ◌+◌, ◌-◌, ◌/◌, ◌%◌, ◌<◌, ◌≤◌, Bool, true, false, ◌&&◌, eqb, leb, List, [], ◌∷◌, length, get_or, sym, refl, ap, ◌∙◌, arith}
+use Rattle.std.proofs.Common.{◌≡◌, ℕ, ◌+◌, ◌-◌, ◌/◌, ◌%◌, ◌<◌, ◌≤◌, Bool, true, false, ◌&&◌, eqb, leb, List, [], ◌∷◌, length, get_or, refl, ap, ◌∙◌, arith}
 use Rattle.plane.specs.Lists.{every}
 use Rattle.plane.specs.Corners.{Corner, corner}
 use Rattle.ground.specs.Rows.{near_corner}
 use Rattle.ground.specs.Shapes.{Shape, edges, ring_clear}
 use Rattle.ground.specs.Rows.{shape_of}
 use Rattle.ground.specs.Refusals.{is_ground, goes_left, FirstFar, FirstMeeting, WholeCorners, WellSized, InRange, Wrong, Refuses}
-use Rattle.ground.specs.declared.refusal.NoGround.{NoGround}
 use Rattle.ground.specs.declared.refusal.NoGround.TheVariants.{Odd, TooFew, TooMany, OutOfRange, EdgesMeet, Clockwise}
 use Rattle.ground.proofs.Closing.{shape_many}
 use Rattle.std.proofs.lemmas.Bool.{ltb-false, lt-leb, le-leb, eq-eqb, ne_eqb, and_left, and_right, and_from}

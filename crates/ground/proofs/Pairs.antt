@@ -3,8 +3,8 @@ use Rattle.std.proofs.Common.{◌≡◌, ℕ, zero, suc, ◌+◌, ◌-◌, ◌<�
 use Rattle.std.proofs.lemmas.List.{get_or-drop, get_or_append_left, get_or_at, length-append}
 use Rattle.std.proofs.lemmas.Bool.{eq-eqb, ne_eqb, cases_eq, and_left, and_right, and_parts, and_from}
 use Rattle.plane.specs.Lists.{pick}
-use Rattle.plane.proofs.Booleans.{and_assoc, and_true_right, and_false_right, false_from_not, false_from, not_both}
-use Rattle.plane.specs.Corners.{Corner, corner}
+use Rattle.plane.proofs.Booleans.{and_assoc, and_true_right, false_from_not, false_from, not_both}
+use Rattle.plane.specs.Corners.{corner}
 use Rattle.plane.specs.Edges.{Edge, edge, meet}
 use Rattle.ground.specs.Shapes.{neighbours_fine, clear_of, last_edge, all_but_last, path_clear, ring_clear}
 use Rattle.ground.specs.Paths.{FirstMet, fits_last}

@@ -1,8 +1,8 @@
 -- Paths of edges over the corners of a row.
-use Rattle.std.proofs.Common.{◌≡◌, ℕ, ◌<◌, ◌≤◌, Bool, true, false, not, ◌&&◌, List, [], ◌∷◌, length, sym, refl, ap, ◌∙◌}
+use Rattle.std.proofs.Common.{◌≡◌, ℕ, ◌<◌, ◌≤◌, Bool, true, not, ◌&&◌, List, [], ◌∷◌, length, refl}
 use Rattle.plane.specs.Corners.{Corner, corner}
 use Rattle.plane.specs.Edges.{Edge, edge, meet}
-use Rattle.ground.specs.Shapes.{Shape, clear_of}
+use Rattle.ground.specs.Shapes.{clear_of}
 use Rattle.ground.specs.Rows.{shape_of}
 use Rattle.ground.specs.Paths.{path, FirstMet}
 use Rattle.ground.proofs.Rows.{front, beyond, at_more, at_none}

@@ -1,7 +1,6 @@
 -- A row of numbers, read two by two: the front corner, and what is left.
-use Rattle.std.proofs.Common.{◌≡◌, ℕ, zero, suc, ◌+◌, ◌-◌, ◌*◌, ◌/◌, ◌%◌, ◌<◌, ◌≤◌, Bool, true, false, ◌&&◌, ltb, List, [], ◌∷◌, length, get_or, take, drop, sym, refl, ap, ◌∙◌, arith, length-drop}
+use Rattle.std.proofs.Common.{◌≡◌, ℕ, suc, ◌-◌, ◌/◌, ◌<◌, ◌≤◌, List, [], ◌∷◌, length, get_or, take, drop, ap, arith, length-drop}
 use Rattle.std.proofs.lemmas.List.{take_rest}
-use Rattle.plane.specs.Lists.{every}
 use Rattle.plane.specs.Corners.{Corner, corner}
 use Rattle.ground.specs.Shapes.{Shape}
 use Rattle.ground.specs.Rows.{corners, shape_of}

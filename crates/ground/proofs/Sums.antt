@@ -1,9 +1,9 @@
 -- The two sums of products whose difference is twice the area, product by product.
-use Rattle.std.proofs.Common.{◌≡◌, ℕ, zero, suc, ◌+◌, ◌-◌, ◌*◌, ◌/◌, ◌<◌, ◌≤◌, Bool, true, false, ◌&&◌, ltb, List, [], ◌∷◌, length, Some, None, Option, sym, refl, ap, ◌∙◌, arith, MatchOption}
+use Rattle.std.proofs.Common.{◌≡◌, ℕ, suc, ◌+◌, ◌-◌, ◌*◌, ◌<◌, ◌≤◌, true, false, ltb, List, [], ◌∷◌, length, Some, None, Option, sym, arith, MatchOption}
 use Rattle.std.proofs.lemmas.Bool.{ltb-true, lt-ltb, le-ltb, and_parts}
 use Rattle.std.proofs.lemmas.Nat.{mul-le}
 use Rattle.plane.specs.Lists.{every, added_up}
-use Rattle.plane.specs.Corners.{Corner, corner}
+use Rattle.plane.specs.Corners.{Corner}
 use Rattle.plane.specs.Edges.{Edge, edge}
 use Rattle.ground.specs.Rows.{near_corner}
 use Rattle.ground.specs.Shapes.{Shape, edges, edges_from, left_sum, right_sum, twice_area}

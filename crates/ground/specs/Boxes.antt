@@ -2,7 +2,7 @@
 use Rattle.std.specs.Prelude.{ℕ, ◌+◌, ◌*◌, ◌/◌, ◌%◌, min, max, Bool, ◌&&◌, List, length, ◌==◌, nat_le}
 use Rattle.plane.specs.Corners.{Corner}
 use Rattle.ground.specs.Shapes.{Point, Shape}
-use Rattle.ground.specs.Rows.{shape_of, least, greatest}
+use Rattle.ground.specs.Rows.{least, greatest}
 use Rattle.ground.specs.declared.bounding.Extent.{Extent}
 
 -- the least box with all corners in it

@@ -1,9 +1,9 @@
 -- Which rows of numbers are grounds, and why the others are none. Assumes nothing: these are definitions.
-use Rattle.std.specs.Prelude.{◌≡◌, ℕ, ◌+◌, ◌-◌, ◌%◌, ◌<◌, ◌≤◌, Bool, true, false, not, ◌&&◌, List, [], ◌∷◌, length, ◌==◌, nat_le, nat_lt, slice_index_or}
+use Rattle.std.specs.Prelude.{◌≡◌, ℕ, ◌+◌, ◌-◌, ◌%◌, ◌<◌, ◌≤◌, Bool, true, false, not, ◌&&◌, List, length, ◌==◌, nat_le, nat_lt, slice_index_or}
 use Rattle.plane.specs.Lists.{pick, every}
 use Rattle.plane.specs.Corners.{Corner, corner}
 use Rattle.plane.specs.Edges.{Edge, edge, meet}
-use Rattle.ground.specs.Shapes.{Shape, edges, neighbours_fine, clear_of, ring_clear, left_sum, right_sum, a_shape}
+use Rattle.ground.specs.Shapes.{Shape, edges, neighbours_fine, ring_clear, left_sum, right_sum, a_shape}
 use Rattle.ground.specs.Rows.{near_corner, shape_of}
 use Rattle.ground.specs.declared.refusal.NoGround.{NoGround}
 use Rattle.ground.specs.declared.refusal.NoGround.TheVariants.{Odd, TooFew, TooMany, OutOfRange, EdgesMeet, Clockwise}

@@ -1,5 +1,5 @@
 -- Which rows of corners are grounds, and which points they have. Assumes nothing: these are definitions.
-use Rattle.std.specs.Prelude.{ℕ, ◌+◌, ◌-◌, ◌*◌, ◌%◌, Bool, true, false, not, ◌&&◌, List, [], ◌∷◌, length, ◌==◌, nat_le, nat_lt}
+use Rattle.std.specs.Prelude.{ℕ, ◌-◌, ◌*◌, ◌%◌, Bool, true, false, not, ◌&&◌, List, [], ◌∷◌, length, ◌==◌, nat_le, nat_lt}
 use Rattle.plane.specs.Lists.{or, every, any, those, added_up}
 use Rattle.plane.specs.Corners.{Corner, corner, same_corner}
 use Rattle.plane.specs.Edges.{Edge, edge, grown_edge, on_edge, rises, falls, meet}

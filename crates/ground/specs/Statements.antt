@@ -1,5 +1,5 @@
 -- What is so of grounds. Each is a statement, a type: docs/PROOFS.md says which have their proofs, and where. Assumes nothing.
-use Rattle.std.specs.Prelude.{◌≡◌, ℕ, ◌+◌, ◌*◌, ◌≤◌, Bool, true, false, ◌&&◌, List, [], ◌∷◌, ◌++◌, ◌==◌, nat_le}
+use Rattle.std.specs.Prelude.{◌≡◌, ℕ, ◌+◌, ◌*◌, ◌≤◌, Bool, true, false, ◌&&◌, [], ◌∷◌, ◌++◌, ◌==◌, nat_le}
 use Rattle.plane.specs.Lists.{pick, every, any, each}
 use Rattle.plane.specs.Corners.{Corner, corner}
 use Rattle.plane.specs.Edges.{cross_over, meet}

@@ -1,5 +1,5 @@
 -- From the contract of a step to what came of a request.
-use Rattle.std.proofs.Common.{◌≡◌, ℕ, zero, suc, ◌+◌, ◌-◌, ◌*◌, ◌/◌, ◌%◌, ◌<◌, ◌≤◌, Bool, true, false, ◌&&◌, eqb, ltb, leb, List, [], ◌∷◌, ◌++◌, length, sym, refl, ap, ◌∙◌, subst, arith, lit≤, eq-eqb}
+use Rattle.std.proofs.Common.{◌≡◌, ℕ, ◌+◌, ◌%◌, ◌≤◌, Bool, true, false, ◌&&◌, eqb, ltb, leb, List, [], length, sym, refl, ap, subst, arith, lit≤, eq-eqb}
 use lib.ListN.{length-replicate}
 use Rattle.std.proofs.lemmas.Bool.{lt-leb, and_left, and_right}
 use Rattle.std.proofs.lemmas.Bool.Decides.{nat_tests}
@@ -7,10 +7,10 @@ use Rattle.plane.specs.Lists.{pick, every}
 use Rattle.ground.specs.Shapes.{edges, ring_clear, left_sum, right_sum, a_shape}
 use Rattle.ground.specs.Rows.{shape_of}
 use Rattle.map.specs.House.{put, there, corners_in, refusal}
-use Rattle.map.specs.Promise.{Event, said, next}
+use Rattle.map.specs.Promise.{said}
 use Rattle.map.specs.Sizes.{memory_length}
 use Rattle.map.specs.Machine.{own}
-use Rattle.map.specs.Entry.{StepSays, step_fits, event_of, ActTold}
+use Rattle.map.specs.Entry.{StepSays, step_fits, event_of}
 use Rattle.map.specs.Asking.{handed, event_said, Stepped, LongRows}
 use Rattle.map.specs.declared.told.Told.{Told}
 use Rattle.map.specs.declared.asking.Request.{Request}

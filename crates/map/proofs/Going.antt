@@ -1,17 +1,16 @@
 -- Going on with a request: each row that is shown leaves fewer records to look at, and what came of all the steps.
-use Rattle.std.proofs.Common.{◌≡◌, ℕ, zero, suc, ◌+◌, ◌-◌, ◌<◌, ◌≤◌, Bool, true, false, ◌&&◌, eqb, ltb, leb, ◌≢◌, List, [], ◌∷◌, ◌++◌, length, get_or, take, drop, set, sym, refl, ap, ◌∙◌, subst, append_assoc, append-nil, add-suc, zero-add, arith, lit≤, length-append, length-drop, length-set, get_or-set_other, get_or-set_same, le-leb, leb-true}
+use Rattle.std.proofs.Common.{◌≡◌, ℕ, zero, suc, ◌+◌, ◌<◌, ◌≤◌, Bool, true, false, ◌&&◌, eqb, ltb, leb, List, [], ◌∷◌, ◌++◌, length, get_or, take, drop, set, sym, refl, ap, ◌∙◌, subst, append_assoc, append-nil, zero-add, arith, length-set, get_or-set_other, get_or-set_same, le-leb, leb-true}
 use lib.Seq.{take-append-le, take-length}
-use Rattle.std.proofs.lemmas.Bool.Decides.{nat_tests}
 use Rattle.plane.specs.Lists.{pick}
 use Rattle.plane.proofs.Booleans.{pick_both}
 use Rattle.ground.specs.Shapes.{Point, Shape, a_shape}
-use Rattle.map.specs.House.{Command, put, drop_it, at_point, how_lies, all_that, area_of}
+use Rattle.map.specs.House.{put, drop_it, at_point, how_lies, all_that, area_of}
 use Rattle.map.specs.Promise.{Event, said, next, Act, shows, done, refused, Step, ran, runs, one_act}
 use Rattle.map.specs.Sizes.{memory_length, head_length, at_grounds, at_cursor, at_left, at_a, at_b, at_w}
 use Rattle.map.specs.Memory.{number_at, Listed, listed, scan, whole_at, has_at, behind, opened, closed, Sought, seek, has_room, within_count}
 use Rattle.map.specs.Machine.{own, acts, put_step, drop_step, tell_step, next_step, stepped, point, small_point}
 use Rattle.map.specs.Entry.{ActTold}
-use Rattle.map.specs.Asking.{Stepped, flattened, end_number, Went}
+use Rattle.map.specs.Asking.{Stepped, flattened, Went}
 use Rattle.map.specs.declared.told.Told.{Told}
 use Rattle.map.specs.declared.told.Told.TheVariants.{Shows, Done, No}
 use Rattle.map.specs.declared.asking.End.{End}

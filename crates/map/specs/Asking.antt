@@ -1,5 +1,5 @@
 -- A request as an event, and what came of it. Assumes nothing: these are definitions.
-use Rattle.std.specs.Prelude.{◌≡◌, ℕ, ◌%◌, ◌<◌, Bool, true, ◌&&◌, List, [], ◌∷◌, ◌++◌, length, IfOk, Result, ◌==◌, nat_le}
+use Rattle.std.specs.Prelude.{◌≡◌, ℕ, ◌%◌, ◌<◌, ◌&&◌, List, [], ◌∷◌, ◌++◌, length, IfOk, Result, ◌==◌, nat_le}
 use Rattle.std.specs.declared.alloc.AllocError.{AllocError}
 use Rattle.plane.specs.Lists.{pick}
 use Rattle.ground.specs.Shapes.{Shape}

@@ -1,8 +1,8 @@
 -- How a step of the machine is told to the world outside. Assumes nothing: these are definitions.
-use Rattle.std.specs.Prelude.{◌≡◌, ℕ, ◌/◌, ◌%◌, Bool, true, false, ◌&&◌, List, [], ◌∷◌, ◌++◌, length, drop, ◌==◌, nat_le}
+use Rattle.std.specs.Prelude.{◌≡◌, ℕ, ◌/◌, ◌%◌, Bool, true, false, ◌&&◌, List, ◌++◌, length, drop, ◌==◌, nat_le}
 use Rattle.plane.specs.Lists.{pick}
 use Rattle.ground.specs.Rows.{corners}
-use Rattle.map.specs.House.{Command, put, drop_it, at_point, how_lies, all_that, area_of}
+use Rattle.map.specs.House.{put, drop_it, at_point, how_lies, all_that, area_of}
 use Rattle.map.specs.Promise.{Event, said, next, Act, shows, done, refused}
 use Rattle.map.specs.Machine.{own}
 use Rattle.map.specs.declared.told.Told.{Told}

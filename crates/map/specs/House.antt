@@ -1,7 +1,7 @@
 -- What can be said to the map, and what it is to answer. Assumes nothing: these are definitions.
 use Rattle.std.specs.Prelude.{◌≡◌, ℕ, ◌+◌, ◌≤◌, Bool, true, false, not, ◌&&◌, ◌⊎◌, List, [], ◌∷◌, length, ◌==◌, nat_eq, nat_le, nat_lt}
 use Rattle.plane.specs.Lists.{pick, every, any, those, each}
-use Rattle.ground.specs.Shapes.{Point, Shape, a_shape, in_shape, twice_area}
+use Rattle.ground.specs.Shapes.{Shape, a_shape, in_shape, twice_area}
 use Rattle.ground.specs.Ways.{Lies}
 
 -- a ground, under its number

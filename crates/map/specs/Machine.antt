@@ -1,8 +1,8 @@
 -- The machine: what it does at each event, for every content of its memory. Assumes nothing: these are definitions.
-use Rattle.std.specs.Prelude.{ℕ, Bool, true, false, ◌&&◌, List, [], ◌∷◌, length, replicate, ◌==◌, nat_le, nat_lt, slice_index}
+use Rattle.std.specs.Prelude.{ℕ, Bool, ◌&&◌, List, [], ◌∷◌, length, replicate, ◌==◌, nat_le, nat_lt, slice_index}
 use Rattle.plane.specs.Lists.{pick}
 use Rattle.ground.specs.Shapes.{Point, Shape, a_shape}
-use Rattle.map.specs.House.{Command, put, drop_it, at_point, how_lies, all_that, area_of}
+use Rattle.map.specs.House.{put, drop_it, at_point, how_lies, all_that, area_of}
 use Rattle.map.specs.Promise.{Engine, Event, said, next, Act, shows, done, refused, Step}
 use Rattle.map.specs.Sizes.{memory_length, head_length, at_grounds, at_cursor, at_left, at_a, at_b, at_w}
 use Rattle.map.specs.Memory.{number_at, behind, Sought, seek, Listed, scan, with_record, without_record, opened, closed, has_room, within_count}

@@ -1,7 +1,6 @@
 -- What stands in a memory, whatever it holds: reading is total. Assumes nothing: these are definitions.
-use Rattle.std.specs.Prelude.{ℕ, zero, suc, ◌+◌, ◌-◌, ◌*◌, Bool, true, false, ◌&&◌, ltb, List, [], ◌∷◌, ◌++◌, length, take, drop, ◌==◌, nat_le, nat_lt, slice_index, slice_set}
+use Rattle.std.specs.Prelude.{ℕ, zero, suc, ◌+◌, ◌-◌, ◌*◌, Bool, true, false, ◌&&◌, ltb, List, ◌∷◌, ◌++◌, length, take, drop, ◌==◌, nat_le, nat_lt, slice_index, slice_set}
 use Rattle.plane.specs.Lists.{pick, every}
-use Rattle.plane.specs.Corners.{Corner}
 use Rattle.ground.specs.Shapes.{Point, Shape, in_shape}
 use Rattle.ground.specs.Rows.{shape_of, flat, least, greatest}
 use Rattle.map.specs.Sizes.{most_grounds, most_corners, head_length, at_grounds, at_corners, at_cursor, at_left, at_a, at_b, at_w, record_length}

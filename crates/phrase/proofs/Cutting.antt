@@ -1,5 +1,5 @@
 -- Cutting a line into words, byte by byte.
-use Rattle.std.proofs.Common.{◌≡◌, ℕ, ◌+◌, ◌-◌, ◌<◌, ◌≤◌, true, false, cond, List, [], ◌∷◌, ◌++◌, length, get_or, take, drop, Some, None, Ok, Err, Option, sym, refl, ap, ◌∙◌, append_assoc, append-nil, arith, length-drop}
+use Rattle.std.proofs.Common.{◌≡◌, ℕ, ◌+◌, ◌-◌, ◌<◌, ◌≤◌, true, false, List, [], ◌∷◌, ◌++◌, length, get_or, take, drop, Some, Ok, Err, Option, sym, refl, ap, ◌∙◌, append_assoc, append-nil, arith, length-drop}
 use native.Mathlib.Nat.{sub_self}
 use Rattle.std.specs.List.{between}
 use Rattle.std.proofs.lemmas.List.Edits.{between_more}
@@ -11,7 +11,7 @@ use Rattle.phrase.specs.declared.word.Word.{Word}
 use Rattle.phrase.specs.Numbers.{bind}
 use Rattle.phrase.specs.Reading.{Reads, Closes}
 use Rattle.phrase.proofs.Sofar.{prefixed, one_before, nothing_more}
-use Rattle.phrase.specs.Words.{ends, plain, separates, closed, cut, all_words, word}
+use Rattle.phrase.specs.Words.{ends, plain, separates, closed, cut, all_words}
 
 plain_stop : (b : ℕ) (bs : List ℕ) → ends b (length bs) ≡ true → plain (b ∷ bs) ≡ []
 unfolding plain

@@ -1,5 +1,5 @@
 -- Decimals in lowest terms.
-use Rattle.std.proofs.Common.{◌≡◌, ℕ, ◌+◌, ◌*◌, ◌/◌, ◌^◌, ◌<◌, ◌≤◌, Some, None, ◌∙◌, le-div_iff_mul-le, arith, lit<}
+use Rattle.std.proofs.Common.{◌≡◌, ℕ, ◌/◌, ◌^◌, ◌<◌, ◌≤◌, Some, None, ◌∙◌, le-div_iff_mul-le, arith, lit<}
 use native.Mathlib.Nat.{div_self, zero-div, one-le-pow, pow-le-pow_right}
 use Rattle.std.proofs.lemmas.Bool.{ne_eqb, le-ltb, cond-false}
 use Rattle.phrase.specs.declared.word.Word.TheVariants.{Fraction}

@@ -1,10 +1,9 @@
 -- A number by its parts: the digits in front, the mark, and what follows it.
-use Rattle.std.proofs.Common.{◌≡◌, ℕ, ◌-◌, ◌^◌, eqb, List, [], ◌∷◌, length, get_or, take, drop, Some, None, Option, sym, refl, ap, ◌∙◌, arith}
+use Rattle.std.proofs.Common.{◌≡◌, ℕ, ◌-◌, ◌^◌, eqb, List, [], ◌∷◌, length, get_or, take, Option, ◌∙◌, arith}
 use native.Mathlib.Nat.{sub-zero}
 use Rattle.std.specs.List.{between}
 use Rattle.std.proofs.lemmas.List.{take_rest}
 use Rattle.std.proofs.lemmas.Bool.{eq-eqb, ne_eqb, cond-true, cond-false}
-use Rattle.phrase.specs.declared.word.Word.{Word}
 use Rattle.phrase.specs.Numbers.{bind, more_digits, run, lowest, marked, number_word}
 
 -- after a `/` comes the denominator, read as o

@@ -7,7 +7,7 @@ use Rattle.phrase.specs.declared.word.Name.{Name}
 use Rattle.phrase.specs.declared.word.Name.TheVariants as names
 use Rattle.phrase.specs.declared.word.Word.{Word}
 use Rattle.phrase.specs.declared.word.Word.TheVariants.{Named, Whole}
-use Rattle.phrase.specs.Commands.{Said, put, drops, at_point, how_lie, all_that_lie, area_of, help, quit, nothing}
+use Rattle.phrase.specs.Commands.{put, drops, at_point, how_lie, all_that_lie, area_of, help, quit, nothing}
 use Rattle.phrase.specs.Grammar.{row_words, command}
 use Rattle.phrase.specs.Kinds.{begins}
 use Rattle.phrase.specs.Numbers.{bind}

@@ -1,5 +1,5 @@
 -- What was read so far, before what is still to be read; and what is handed on where reading is given up.
-use Rattle.std.proofs.Common.{◌≡◌, List, [], ◌∷◌, ◌++◌, IsErrAnd, Some, None, Err, Option, Result, sym, refl, ap, ◌∙◌, append_assoc, append-nil}
+use Rattle.std.proofs.Common.{◌≡◌, List, [], ◌∷◌, ◌++◌, IsErrAnd, Some, None, Err, Option, Result, sym, refl, ap, append_assoc, append-nil}
 use Rattle.std.proofs.lemmas.Result.{err_from_is_err_and}
 use Rattle.phrase.specs.declared.fault.NotUnderstood.{NotUnderstood}
 use Rattle.phrase.specs.declared.fault.NotUnderstood.TheVariants.{Unreadable, OutOfMemory}

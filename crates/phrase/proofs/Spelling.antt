@@ -1,13 +1,13 @@
 -- A number that was written is read back.
-use Rattle.std.proofs.Common.{◌≡◌, ℕ, ◌+◌, ◌-◌, ◌*◌, ◌^◌, ◌<◌, ◌≤◌, Bool, true, false, cond, ◌&&◌, ◌||◌, eqb, leb, List, [], ◌∷◌, ◌++◌, length, take, drop, Some, None, decimal, sym, refl, ap, ◌∙◌, append_assoc, append-nil, arith, lit<, rules}
+use Rattle.std.proofs.Common.{◌≡◌, ℕ, ◌+◌, ◌-◌, ◌*◌, ◌^◌, ◌<◌, ◌≤◌, true, false, eqb, leb, List, [], ◌∷◌, ◌++◌, length, take, drop, Some, None, decimal, sym, refl, ap, ◌∙◌, append_assoc, append-nil, arith, lit<, rules}
 use Rattle.std.specs.Char.{is_ascii_digit}
-use Rattle.std.specs.Str.{all_ascii_digits, bytes_eq}
+use Rattle.std.specs.Str.{all_ascii_digits}
 use Rattle.std.proofs.lemmas.Fmt.{decimal_nonempty, digits_decimal, digits_value-decimal}
 use Rattle.std.proofs.lemmas.List.{take_all, drop_all}
 use Rattle.std.proofs.lemmas.Str.Parse.{IsNumeralModel, numerals_by_fold}
 use Rattle.std.proofs.lemmas.Bool.{and_parts, cond-false, ne_eqb, leb-true}
 use Rattle.phrase.specs.declared.word.Word.TheVariants.{Whole}
-use Rattle.phrase.specs.Numbers.{bind, read_on, more_digits, run, marked, number_word}
+use Rattle.phrase.specs.Numbers.{bind, read_on, run, number_word}
 use Rattle.phrase.specs.Words.{ends, plain, separates, closed, cut, name, named, word, all_words}
 use Rattle.phrase.proofs.Cutting.{cut_on}
 use Rattle.phrase.proofs.Digits.{read_end, read_digit, run_end, run_digit, more_some}

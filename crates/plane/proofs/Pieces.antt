@@ -13,8 +13,6 @@ use Rattle.plane.proofs.Sides.{on_edge_parts}
 use Rattle.plane.proofs.Incidence.{between_cases}
 use Rattle.plane.proofs.Proportion.{Evenly}
 use Rattle.plane.proofs.Reversal.{parts, on_edge_reversed}
-use Rattle.plane.proofs.Turns.{mirrored}
-use Rattle.plane.proofs.Northward.{on_edge_mirrored}
 use Rattle.plane.proofs.Neighbours.{neighbour_off}
 use Rattle.plane.proofs.Meeting.{met_at}
 use Rattle.plane.proofs.Bends.{next_bend, straight, in_line_first, in_line_second}

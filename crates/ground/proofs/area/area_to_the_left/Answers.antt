@@ -1,7 +1,6 @@
-use Rattle.std.proofs.Common.{◌≡◌, ◌+◌, ◌*◌, ◌<◌, ◌≤◌, length, arith, rules}
+use Rattle.std.proofs.Common.{◌*◌, ◌<◌, ◌≤◌, length, arith, rules}
 use Rattle.plane.specs.Code.{at}
 use Rattle.ground.specs.Rows.{shape_of}
-use Rattle.ground.specs.Shapes.{left_sum, right_sum}
 use Rattle.ground.proofs.Rows.{front}
 use Rattle.ground.proofs.Sums.{sum_begins, sum_goes_on, sum_ends, left_small, right_small, no_area, area_so}
 use Rattle.ground.proofs.area.area_to_the_left.Goals as goal

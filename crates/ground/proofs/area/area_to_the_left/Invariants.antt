@@ -1,4 +1,4 @@
-use Rattle.std.proofs.Common.{◌≡◌, ◌+◌, ◌*◌, ◌≤◌, length}
+use Rattle.std.proofs.Common.{◌≡◌, ◌+◌, ◌*◌, length}
 use Rattle.plane.specs.Code.{at}
 use Rattle.plane.specs.Lists.{added_up}
 use Rattle.ground.specs.Shapes.{edges_from, left_sum, right_sum}

@@ -1,4 +1,4 @@
-use Rattle.std.proofs.Common.{◌≡◌, ◌<◌, ◌≤◌, length, sym, arith, rules}
+use Rattle.std.proofs.Common.{◌<◌, ◌≤◌, length, sym, arith, rules}
 use Rattle.ground.specs.Rows.{near_corner}
 use Rattle.ground.proofs.Rows.{beyond_length, shape_more, shape_none}
 use Rattle.ground.proofs.Fronts.{passed_more, passed_to, passed_all}

@@ -1,5 +1,4 @@
-use Rattle.std.proofs.Common.{◌≡◌, ◌/◌, ◌<◌, ◌≤◌, length, sym, subst, arith, rules}
-use Rattle.plane.specs.Code.{at, along}
+use Rattle.std.proofs.Common.{◌≤◌, length, sym, subst, arith, rules}
 use Rattle.ground.specs.Rows.{shape_of}
 use Rattle.ground.specs.Shapes.{edges}
 use Rattle.ground.proofs.Rows.{front, beyond, beyond_length}

@@ -1,4 +1,4 @@
-use Rattle.std.proofs.Common.{◌≡◌, ◌<◌, ◌≤◌, not, length, sym, ap, arith, rules}
+use Rattle.std.proofs.Common.{◌<◌, ◌≤◌, not, length, sym, ap, arith, rules}
 use Rattle.plane.specs.Code.{at, along}
 use Rattle.ground.proofs.Rows.{beyond_length}
 use Rattle.ground.proofs.Fronts.{passed_none, passed_more, passed_to, passed_all}

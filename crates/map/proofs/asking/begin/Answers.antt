@@ -1,6 +1,5 @@
-use Rattle.std.proofs.Common.{◌≡◌, ℕ, List, [], sym, refl, subst, lit≤}
+use Rattle.std.proofs.Common.{lit≤}
 use Rattle.map.specs.Entry.{event_of}
-use Rattle.map.specs.Asking.{event_said, handed}
 use Rattle.map.proofs.Asked.{fitting_bare, fitting_put, by_request}
 use Rattle.map.proofs.asking.begin.Goals as goal
 

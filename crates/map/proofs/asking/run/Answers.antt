@@ -1,6 +1,6 @@
-use Rattle.std.proofs.Common.{◌≡◌, ℕ, ◌-◌, ◌≤◌, false, List, [], ◌++◌, take, vec_items, sym, refl, ap, ◌∙◌, subst, append_assoc, append-nil, arith, rules}
+use Rattle.std.proofs.Common.{◌≡◌, ℕ, ◌-◌, ◌≤◌, List, [], ◌++◌, take, vec_items, sym, refl, ◌∙◌, append_assoc, append-nil, arith, rules}
 use Rattle.map.specs.Asking.{event_said, RanThrough}
-use Rattle.map.proofs.Going.{Way, way_begins, way_goes_on, way_done, way_refused, row_short, still_falls, only_done, way_told, way_ends}
+use Rattle.map.proofs.Going.{way_begins, way_goes_on, way_done, way_refused, row_short, still_falls, only_done, way_told, way_ends}
 use Rattle.map.proofs.asking.run.Goals as goal
 
 pub loop-told-init : goal.loop-told-init

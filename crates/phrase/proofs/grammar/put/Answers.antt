@@ -1,6 +1,3 @@
-use Rattle.std.proofs.Common.{sym}
-use Rattle.phrase.specs.Commands.{said}
-use Rattle.phrase.specs.Reading.{Reads}
 use Rattle.phrase.proofs.Rows.{put_first}
 use Rattle.phrase.proofs.grammar.put.Goals as goal
 

@@ -1,6 +1,6 @@
 use Rattle.std.proofs.Common.{sym, ◌∙◌, arith, true-eqb, false-eqb}
 use Rattle.std.proofs.lemmas.List.{at_drop_more, at_drop_all}
-use Rattle.phrase.specs.Numbers.{read_on, more_digits}
+use Rattle.phrase.specs.Numbers.{read_on}
 use Rattle.phrase.proofs.Digits.{more_end, more_some, read_end, read_digit, read_odd, read_large}
 use Rattle.phrase.proofs.number.more_digits.Goals as goal
 

@@ -1,4 +1,4 @@
-use Rattle.std.proofs.Common.{sym, ◌∙◌, arith, false-eqb}
+use Rattle.std.proofs.Common.{◌∙◌, false-eqb}
 use Rattle.phrase.specs.Answers.{row_line}
 use Rattle.phrase.proofs.Joining.{item_more, items_all}
 use Rattle.phrase.proofs.Lines.{some_lines}

@@ -1,4 +1,4 @@
-use Rattle.std.proofs.Common.{◌≡◌, ◌%◌, ◌<◌, ◌≤◌, true, false, length, sym, ◌∙◌, arith, rules}
+use Rattle.std.proofs.Common.{◌<◌, ◌≤◌, length, sym, ◌∙◌, arith, rules}
 use Rattle.plane.specs.Lists.{every}
 use Rattle.plane.specs.Code.{at}
 use Rattle.plane.specs.Edges.{edge}

@@ -1,4 +1,4 @@
-use Rattle.std.proofs.Common.{◌≡◌, ℕ, List, ◌++◌, length, take, drop, vec_items, sym, refl, ap, ◌∙◌, subst, arith}
+use Rattle.std.proofs.Common.{◌≡◌, ℕ, List, ◌++◌, length, take, drop, vec_items, sym, ◌∙◌, subst, arith}
 use lib.Seq.{take-append-le, take-length}
 use Rattle.map.specs.Asking.{event_said, RanThrough}
 use Rattle.map.proofs.owner.Machine.ask.Goals as goal

@@ -1,4 +1,3 @@
-use Rattle.std.proofs.Common.{◌≡◌}
 use Rattle.map.specs.Machine.{own}
 use Rattle.map.proofs.owner.Machine.new.Goals as goal
 
