@@ -18,6 +18,7 @@ use painting::paint;
 use problem::Problem;
 use raster::{Window, fit};
 use reading::read_register;
+use std::process::ExitCode;
 
 // The window that was asked for, or the one that shows all grounds. A register without grounds has no picture.
 fn window_of(order: &Order, chart: &Chart) -> Option<Window> {
@@ -38,12 +39,10 @@ fn run(rt: &HostRuntime) -> Result<(), Problem> {
     }
 }
 
-fn main(rt: HostRuntime) -> Result<(), Problem> {
-    match run(&rt) {
-        Ok(()) => Ok(()),
-        Err(problem) => {
-            let _ = eprintln!(rt; "draw: {problem}");
-            Err(problem)
-        }
-    }
+fn main(rt: HostRuntime) -> ExitCode {
+    let Err(problem) = run(&rt) else {
+        return ExitCode::SUCCESS;
+    };
+    let _ = eprintln!(rt; "draw: {problem}");
+    ExitCode::FAILURE
 }

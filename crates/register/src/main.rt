@@ -6,13 +6,13 @@ mod checking;
 mod loading;
 mod options;
 
-use anyhow::anyhow;
 use book::Book;
 use checking::check;
 use dialogue::converse;
 use entries::write_wkt;
 use loading::load;
 use options::{Asked, Mode, Options, USAGE, read_options};
+use std::process::ExitCode;
 
 // Every ground that was taken, a line each.
 fn write_grounds(rt: &HostRuntime, book: &Book) -> anyhow::Result<()> {
@@ -32,26 +32,27 @@ fn work(rt: &HostRuntime, mode: Mode, book: &mut Book) -> anyhow::Result<()> {
     }
 }
 
-fn run(rt: &HostRuntime, options: &Options) -> anyhow::Result<()> {
+fn run(rt: &HostRuntime, options: &Options) -> anyhow::Result<ExitCode> {
     let mut book = Book::new(rt.alloc())?;
     if let Err(error) = load(rt, options, &mut book) {
         let file = options.file.as_str();
         eprintln!(rt; "register: {file}: {error}")?;
-        return Err(error);
+        return Ok(ExitCode::FAILURE);
     }
-    work(rt, options.mode, &mut book)
+    work(rt, options.mode, &mut book)?;
+    Ok(ExitCode::SUCCESS)
 }
 
-fn main(rt: HostRuntime) -> anyhow::Result<()> {
+fn main(rt: HostRuntime) -> anyhow::Result<ExitCode> {
     match read_options(&rt)? {
         Asked::Work(options) => run(&rt, &options),
         Asked::Help => {
             print!(rt; "{USAGE}")?;
-            Ok(())
+            Ok(ExitCode::SUCCESS)
         }
         Asked::NotUnderstood => {
             eprint!(rt; "{USAGE}")?;
-            Err(anyhow!("the words behind the program's name are not understood"))
+            Ok(ExitCode::FAILURE)
         }
     }
 }
