@@ -1,5 +1,5 @@
 -- The text of an answer, and what became of the machine.
-use Rattle.std.proofs.Common.{◌≡◌, ℕ, true, List, [], ◌++◌, is_err, IfOk, Some, Ok, Err, Option, Result, sym, refl, ap, ◌∙◌, subst, arith}
+use Rattle.std.proofs.Common.{◌≡◌, ℕ, true, List, [], ◌++◌, is_err, IfOk, Some, Ok, Err, Option, Result, refl, ap, ◌∙◌, subst, arith}
 use Rattle.std.specs.declared.alloc.AllocError.{AllocError}
 use Rattle.map.specs.Asking.{RanThrough}
 use Rattle.map.specs.Promise.{Event}

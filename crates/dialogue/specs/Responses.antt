@@ -1,5 +1,5 @@
 -- The text that a command is answered with, and what became of the machine.
-use Rattle.std.specs.Prelude.{◌≡◌, ℕ, List, [], ◌∷◌, ◌++◌, IfOk, Some, None, codes, decimal, Option, Result}
+use Rattle.std.specs.Prelude.{◌≡◌, ℕ, List, [], ◌++◌, IfOk, Some, None, codes, decimal, Option, Result}
 use Rattle.std.specs.declared.alloc.AllocError.{AllocError}
 use Rattle.map.specs.Asking.{Went}
 use Rattle.map.specs.Promise.{Event}

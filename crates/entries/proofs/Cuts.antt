@@ -1,5 +1,5 @@
 -- Cutting a line into marks, byte by byte.
-use Rattle.std.proofs.Common.{◌≡◌, ℕ, ◌+◌, ◌<◌, ◌≤◌, true, false, cond, List, [], ◌∷◌, ◌++◌, length, get_or, take, drop, Some, None, Ok, Err, Option, Result, sym, refl, ap, ◌∙◌, arith}
+use Rattle.std.proofs.Common.{◌≡◌, ℕ, ◌+◌, ◌<◌, ◌≤◌, true, false, List, [], ◌∷◌, ◌++◌, length, get_or, take, drop, Some, None, Ok, Err, Option, Result, sym, refl, ap, ◌∙◌, arith}
 use native.Mathlib.Nat.{sub_self}
 use Rattle.std.specs.List.{between}
 use Rattle.std.proofs.lemmas.List.Edits.{between_more}
@@ -11,7 +11,7 @@ use Rattle.entries.specs.declared.fault.ReadError.TheVariants.{Wrong, OutOfMemor
 use Rattle.entries.specs.declared.mark.Mark.{Mark}
 use Rattle.entries.specs.Marks.{sign, separates, before, closed, signed, marks}
 use Rattle.entries.specs.Reading.{Reads, Closes, Signs}
-use Rattle.entries.specs.Words.{then, word}
+use Rattle.entries.specs.Words.{then}
 use Rattle.entries.proofs.Sofar.{prefixed, one_before, nothing_more}
 
 pub marks_end : (w : List ℕ) → marks w [] ≡ closed w (Ok [])

@@ -5,7 +5,6 @@ use Rattle.entries.specs.declared.fault.Fault.TheVariants.{NotANumber, Brackets}
 use Rattle.entries.specs.declared.mark.Mark.{Mark}
 use Rattle.entries.specs.declared.mark.Mark.TheVariants.{Number, Polygon, Comma, Colon, Open, Close}
 use Rattle.entries.specs.Rows.{numbers}
-use Rattle.entries.specs.Words.{then}
 use Rattle.entries.proofs.Sofar.{prefixed, one_before, nothing_more}
 
 numbers_none : numbers [] ≡ Ok []

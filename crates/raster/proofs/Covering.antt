@@ -1,12 +1,11 @@
 -- The window that shows a box best.
-use Rattle.std.proofs.Common.{◌≡◌, ℕ, ◌+◌, ◌-◌, ◌*◌, ◌<◌, ◌≤◌, max, true, false, leb, ◌⊎◌, ap, inl, inr, ⊎_elim, arith}
+use Rattle.std.proofs.Common.{◌≡◌, ℕ, ◌-◌, ◌*◌, ◌<◌, ◌≤◌, max, false, ◌⊎◌, ap, inl, inr, ⊎_elim, arith}
 use Rattle.std.proofs.lemmas.Bool.Decides.{nat_tests}
 use Rattle.std.proofs.lemmas.Bool.{cases_lt}
 use Rattle.std.proofs.lemmas.Nat.{mul-le}
 use Rattle.ground.specs.Boxes.{raised, holds}
 use Rattle.ground.specs.declared.bounding.Extent.{Extent}
 use Rattle.raster.specs.declared.window.Window.{Window}
-use Rattle.raster.specs.Windows.{side_across, side_up}
 use Rattle.raster.specs.Fitting.{box_shown, Fitted}
 use Rattle.raster.proofs.Counting.{steps_cover, fewer_fail, enough_steps}
 

@@ -1,5 +1,5 @@
 -- How far out the squares of a window lie.
-use Rattle.std.proofs.Common.{◌≡◌, ℕ, ◌+◌, ◌-◌, ◌*◌, ◌^◌, ◌<◌, ◌≤◌, Bool, true, false, ◌&&◌, eqb, ltb, Ok, Err, Result, sym, refl, ◌∙◌, ⊎_elim, arith}
+use Rattle.std.proofs.Common.{◌≡◌, ℕ, ◌+◌, ◌-◌, ◌^◌, ◌<◌, ◌≤◌, Bool, true, false, eqb, ltb, Ok, Err, Result, refl, ⊎_elim, arith}
 use Rattle.std.proofs.lemmas.Bool.Decides.{nat_tests}
 use Rattle.std.proofs.lemmas.Bool.{cases_lt}
 use Rattle.std.proofs.lemmas.Nat.{mul-le}
@@ -9,9 +9,8 @@ use Rattle.ground.specs.declared.bounding.Extent.{Extent}
 use Rattle.raster.specs.declared.flaw.Flaw.TheVariants.{NoStep, NoSquares, TooManySquares, TooFar}
 use Rattle.raster.specs.declared.window.Spot.{Spot}
 use Rattle.raster.specs.declared.window.Window.{Window}
-use Rattle.raster.specs.Windows.{side_across, side_up, middle_of, near, has_square, middle}
+use Rattle.raster.specs.Windows.{middle_of, near, has_square}
 use Rattle.raster.specs.Fitting.{box_shown, Fitted}
-use Rattle.raster.specs.Drawable.{checked}
 use Rattle.raster.specs.Statements.{EverySquareIsAsked, FittedIsDrawn}
 
 -- from west to east the middles lie farther out, and so from south to north

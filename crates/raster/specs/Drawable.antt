@@ -1,5 +1,5 @@
 -- Which windows can be drawn. Assumes nothing: these are definitions.
-use Rattle.std.specs.Prelude.{ℕ, ◌-◌, Ok, Err, Result, ◌==◌, nat_lt}
+use Rattle.std.specs.Prelude.{◌-◌, Ok, Err, Result, ◌==◌, nat_lt}
 use Rattle.plane.specs.Lists.{pick, or}
 use Rattle.raster.specs.declared.flaw.Flaw.{Flaw}
 use Rattle.raster.specs.declared.flaw.Flaw.TheVariants.{NoStep, NoSquares, TooManySquares, TooFar}

@@ -1,4 +1,4 @@
-use Rattle.std.proofs.Common.{◌<◌, length, Ok, vec_items, sym, ap, ◌∙◌, subst, rules}
+use Rattle.std.proofs.Common.{◌<◌, length, Ok, vec_items, sym, ap, ◌∙◌, rules}
 use Rattle.entries.specs.Grammar.{ground, entry_said, entry_of, row_of}
 use Rattle.entries.specs.Words.{then}
 use Rattle.entries.proofs.Fronts.{behind_number}
