@@ -1,6 +1,6 @@
 -- A ground that was written as well-known text is read back.
 use Rattle.std.proofs.Common.{◌≡◌, ℕ, ◌+◌, ◌%◌, ◌^◌, ◌<◌, cond, List, [], ◌∷◌, ◌++◌, length, Ok, Err, codes, decimal, refl, ap, ◌∙◌, append_assoc, arith, length-append}
-use Rattle.std.specs.List.{AllByRecursion as All}
+use Rattle.std.specs.List.{AllByRecursion}
 use Rattle.std.proofs.lemmas.Bool.{eq-eqb, ne_eqb, cond-true, cond-false}
 use Rattle.phrase.specs.Words.{plain}
 use Rattle.entries.specs.declared.fault.Fault.TheVariants.{NotAPolygon}
@@ -17,7 +17,7 @@ use Rattle.entries.proofs.Rings.{more_corners, corner_marks, corners_even, corne
 use Rattle.entries.proofs.Spelling.{number_first, number_then}
 
 abbrev Small : List ℕ → Type 0
-Small row = All (λ x. x < 2 ^ 64) row
+Small row = AllByRecursion (λ x. x < 2 ^ 64) row
 
 small_both : (xs ys : List ℕ) → Small xs → Small ys → Small (xs ++ ys)
 small_both [] ys h g = g

@@ -1,6 +1,6 @@
 -- A ground is on the left hand of each of its edges.
 use Rattle.std.proofs.Common.{◌≡◌, ℕ, ◌≤◌, Bool, true, false, not, ◌&&◌, ◌⊎◌, List, [], ◌∷◌, ◌++◌, sym, refl, ap, ◌∙◌, subst, ap₂, inl, inr, ⊎_elim, arith}
-use Rattle.std.specs.List.{AllByRecursion as All}
+use Rattle.std.specs.List.{AllByRecursion}
 use Rattle.std.proofs.lemmas.Bool.{leb-true, and_left, not-true}
 use Rattle.plane.specs.Lists.{or}
 use Rattle.plane.specs.Corners.{Corner, grown, left_turn, right_turn, in_line}
@@ -25,12 +25,12 @@ use Rattle.ground.proofs.Enlarging.{ring_grown, sense_grown, upward_grown}
 use Rattle.ground.proofs.Areas.{ground_ring, ground_sense}
 
 -- WHAT HOLDS OF ALL
-all_from : {A : Type 0} (P : A → Type 0) (xs : List A) → ((x : A) → In x xs → P x) → All P xs
+all_from : {A : Type 0} (P : A → Type 0) (xs : List A) → ((x : A) → In x xs → P x) → AllByRecursion P xs
 all_from P [] h = tt
 all_from P (x ∷ xs) h = (h x (inl refl), all_from P xs (λ y m. h y (inr m)))
 
 -- and the other way round
-all_at : {A : Type 0} (P : A → Type 0) (x : A) (xs : List A) → All P xs → In x xs → P x
+all_at : {A : Type 0} (P : A → Type 0) (x : A) (xs : List A) → AllByRecursion P xs → In x xs → P x
 all_at P x [] h m = absurd m
 all_at P x (y ∷ ys) h (inl e) = subst P (sym e) h.0
 all_at P x (y ∷ ys) h (inr m) = all_at P x ys h.1 m

@@ -1,6 +1,6 @@
 -- A command that was written is read back.
 use Rattle.std.proofs.Common.{◌≡◌, ℕ, suc, ◌%◌, ◌^◌, ◌<◌, Bool, true, false, cond, ◌&&◌, eqb, ltb, List, [], ◌∷◌, ◌++◌, map, length, Some, codes, decimal, Option, sym, refl, ap, ◌∙◌, append-nil, arith}
-use Rattle.std.specs.List.{AllByRecursion as All}
+use Rattle.std.specs.List.{AllByRecursion}
 use Rattle.std.proofs.lemmas.List.{length-map}
 use Rattle.std.proofs.lemmas.Bool.{eq-eqb, lt-ltb, cond-true, and_from}
 use Rattle.phrase.specs.declared.word.Name.{Name}
@@ -39,7 +39,7 @@ before_coordinate : (n k x : ℕ) (rest : List ℕ) (comma : Bool) → n < 2 ^ 6
 before_coordinate n k x rest true h = before_comma n (decimal x ++ rest) h
 before_coordinate n k x rest false h = before_space n (decimal x ++ rest) h
 
-row_told : (n k : ℕ) (row : List ℕ) → n < 2 ^ 64 → All (λ x. x < 2 ^ 64) row → told (decimal n ++ row_text k row) ≡ Some (Whole n ∷ map Whole row)
+row_told : (n k : ℕ) (row : List ℕ) → n < 2 ^ 64 → AllByRecursion (λ x. x < 2 ^ 64) row → told (decimal n ++ row_text k row) ≡ Some (Whole n ∷ map Whole row)
 unfolding row_text
 row_told n k [] h g = ap told (append-nil (decimal n)) ∙ last_number n h
 row_told n k (x ∷ row) h g =

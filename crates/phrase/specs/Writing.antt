@@ -1,6 +1,6 @@
 -- Which bytes a command is, and that it is read back from them.
 use Rattle.std.specs.Prelude.{◌≡◌, ℕ, suc, ◌%◌, ◌^◌, ◌<◌, cond, ◌&&◌, List, [], ◌∷◌, ◌++◌, length, Some, codes, decimal, ◌==◌, nat_lt}
-use Rattle.std.specs.List.{AllByRecursion as All}
+use Rattle.std.specs.List.{AllByRecursion}
 use Rattle.phrase.specs.Commands.{Said, put, drops, at_point, how_lie, all_that_lie, area_of, help, quit, nothing}
 use Rattle.phrase.specs.Grammar.{meaning}
 
@@ -25,7 +25,7 @@ written nothing = []
 
 -- the commands that some line says
 abbrev pub Sayable : Said → Type 0
-Sayable (put n row) = (n < 2 ^ 64) × All (λ x. x < 2 ^ 64) row × (length row % 2 ≡ 0)
+Sayable (put n row) = (n < 2 ^ 64) × AllByRecursion (λ x. x < 2 ^ 64) row × (length row % 2 ≡ 0)
 Sayable (drops n) = n < 2 ^ 64
 Sayable (at_point a b w) = (0 < w) × (w < 2 ^ 20) × (a < 2 ^ 40) × (b < 2 ^ 40)
 Sayable (how_lie m n) = (m < 2 ^ 64) × (n < 2 ^ 64)
