@@ -13,7 +13,7 @@ pub record Point : Type 0 where
 abbrev pub a_point : Point → Bool
 a_point p = nat_le 1 p.w
 
--- a row of corners; which rows are grounds `a-shape` says
+-- a row of corners; which rows are grounds `a_shape` says
 abbrev pub Shape : Type 0
 Shape = List Corner
 
