@@ -1,5 +1,6 @@
 -- Bounding boxes: of a row of corners, of a point, and which lies in which. Assumes nothing: these are definitions.
-use Rattle.std.specs.Prelude.{ℕ, ◌+◌, ◌*◌, ◌/◌, ◌%◌, min, max, Bool, ◌&&◌, List, length, ◌==◌, nat_le}
+use Rattle.std.specs.Prelude.{ℕ, ◌+◌, ◌*◌, ◌/◌, ◌%◌, min, max, Bool, ◌&&◌, List, length, ◌==◌, nat_le, nat_lt}
+use Rattle.plane.specs.Lists.{or}
 use Rattle.plane.specs.Corners.{Corner}
 use Rattle.ground.specs.Shapes.{Point, Shape}
 use Rattle.ground.specs.Rows.{least, greatest}
@@ -29,6 +30,14 @@ box_around a b w = record { west = a / w; south = b / w; east = raised a w; nort
 abbrev pub holds : Extent → Extent → Bool
 holds outer inner =
     (nat_le outer.west inner.west && nat_le inner.east outer.east) && (nat_le outer.south inner.south && nat_le inner.north outer.north)
+
+-- the one box is all west of the other, or east, or south, or north of it
+abbrev pub boxes_apart : Extent → Extent → Bool
+boxes_apart a b = or (or (nat_lt a.east b.west) (nat_lt b.east a.west)) (or (nat_lt a.north b.south) (nat_lt b.north a.south))
+
+-- the least box with both in it
+abbrev pub box_together : Extent → Extent → Extent
+box_together d e = record { west = min d.west e.west; south = min d.south e.south; east = max d.east e.east; north = max d.north e.north }
 
 -- a box has the point, if all is grown by the point's w
 abbrev pub in_box : (west south east north : ℕ) → Point → Bool

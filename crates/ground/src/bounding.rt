@@ -1,14 +1,15 @@
 // Bounding boxes: a point outside a ground's box is not of that ground, and four comparisons tell.
 ghost use Rattle.std.specs.Prelude.{◌≡◌, length, Some, None, nat_le};
-ghost use Rattle.ground.specs.Boxes.{box_of, has_box, box_around, holds, grown_to};
+ghost use Rattle.ground.specs.Boxes.{box_of, has_box, box_around, holds, boxes_apart, box_together, grown_to};
 ghost use Rattle.ground.specs.Rows.{shape_of};
 ghost use Rattle.plane.specs.Code.{at};
 ghost use Rattle.plane.specs.Lists.{pick};
 
 use plane::Corner;
+use terms::Point;
 
 // From west to east and from south to north, both ends within.
-#[derive(Clone, Copy)]
+#[derive(Clone, Copy, PartialEq, Eq, Debug)]
 pub struct Extent {
     pub west: u64,
     pub south: u64,
@@ -48,10 +49,11 @@ impl Extent {
         Some(extent)
     }
 
-    // The least box of whole numbers around the point a / w, b / w.
-    pub fn around(a: u64, b: u64, w: u64) -> Option<Extent>
-        ensures { result ≡ pick (nat_le 1 w) (Some (box_around a b w)) None }
+    // The least box of whole numbers around a point a / w, b / w; nothing if w is 0.
+    pub fn around(point: Point) -> Option<Extent>
+        ensures { result ≡ pick (nat_le 1 point.w) (Some (box_around point.a point.b point.w)) None }
     {
+        let Point { a, b, w } = point;
         if w == 0 {
             return None;
         }
@@ -71,6 +73,28 @@ impl Extent {
             && inner.east <= self.east
             && self.south <= inner.south
             && inner.north <= self.north
+    }
+
+    // Whether the two have no point in common.
+    pub fn is_apart(self, other: Extent) -> bool
+        ensures { result ≡ boxes_apart self other }
+    {
+        self.east < other.west
+            || other.east < self.west
+            || self.north < other.south
+            || other.north < self.south
+    }
+
+    // The least box with both in it.
+    pub fn together(self, other: Extent) -> Extent
+        ensures { result ≡ box_together self other }
+    {
+        Extent {
+            west: self.west.min(other.west),
+            south: self.south.min(other.south),
+            east: self.east.max(other.east),
+            north: self.north.max(other.north),
+        }
     }
 
     // The least box around this one and a corner.

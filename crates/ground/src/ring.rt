@@ -9,7 +9,7 @@ ghost use Rattle.plane.specs.Code.{at, along};
 use plane::{Corner, Edge};
 
 // Two edges that meet, by their numbers.
-#[derive(Clone, Copy)]
+#[derive(Clone, Copy, PartialEq, Eq, Debug)]
 pub struct Meeting {
     pub first: u64,
     pub second: u64,

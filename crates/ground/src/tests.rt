@@ -1,6 +1,7 @@
 // Grounds worked out by hand.
 use crate::*;
 use std::test::Fail;
+use terms::Point;
 
 const SQUARE: [u64; 8] = [0, 0, 6, 0, 6, 6, 0, 6];
 
@@ -46,19 +47,21 @@ fn four_rows_are_none(rt: HostRuntime) {
 }
 
 // The point 7/2, 3 lies in the notch.
+const NOTCH: Point = Point { a: 7, b: 6, w: 2 };
+
 #[test]
 fn two_grounds_have_the_point(rt: HostRuntime) {
-    assert_eq!(rt; has_point(&SQUARE, 7, 6, 2), Some(true));
-    assert_eq!(rt; has_point(&INNER, 7, 6, 2), Some(true));
-    assert_eq!(rt; has_point(&BESIDE, 7, 6, 2), Some(false));
-    assert_eq!(rt; has_point(&NOTCHED, 7, 6, 2), Some(false));
-    assert_eq!(rt; has_point(&WEDGE, 7, 6, 2), Some(false));
+    assert_eq!(rt; has_point(&SQUARE, NOTCH), Some(true));
+    assert_eq!(rt; has_point(&INNER, NOTCH), Some(true));
+    assert_eq!(rt; has_point(&BESIDE, NOTCH), Some(false));
+    assert_eq!(rt; has_point(&NOTCHED, NOTCH), Some(false));
+    assert_eq!(rt; has_point(&WEDGE, NOTCH), Some(false));
 }
 
 #[test]
 fn a_box_holds_a_point_on_its_side(rt: HostRuntime) -> Result<(), Fail> {
     let notched = Extent::of(&NOTCHED).ok_or("no corners")?;
-    assert!(rt; notched.holds(Extent::around(12, 7, 2).ok_or("no point")?));
-    assert!(rt; !notched.holds(Extent::around(13, 7, 2).ok_or("no point")?));
+    assert!(rt; notched.holds(Extent::around(Point { a: 12, b: 7, w: 2 }).ok_or("no point")?));
+    assert!(rt; !notched.holds(Extent::around(Point { a: 13, b: 7, w: 2 }).ok_or("no point")?));
     Ok(())
 }

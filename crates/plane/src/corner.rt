@@ -12,7 +12,7 @@ use std::cmp::Ordering;
 const NEAR_LIMIT: u64 = 2147483648;
 
 // Two whole numbers, eastward and northward.
-#[derive(Clone, Copy)]
+#[derive(Clone, Copy, PartialEq, Eq, Debug)]
 pub struct Corner {
     pub x: u64,
     pub y: u64,

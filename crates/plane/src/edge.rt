@@ -11,7 +11,7 @@ use crate::extent::{between, ranges_meet};
 use crate::turning::Turn;
 
 // An edge goes from `one` to `other`; both may be the same corner.
-#[derive(Clone, Copy)]
+#[derive(Clone, Copy, PartialEq, Eq, Debug)]
 pub struct Edge {
     pub one: Corner,
     pub other: Corner,

@@ -1,5 +1,5 @@
 // What is told of three corners: how they turn, or that they were refused.
-#[derive(Clone, Copy)]
+#[derive(Clone, Copy, PartialEq, Eq, Debug)]
 pub enum Reply {
     Left,
     Right,

@@ -1,5 +1,5 @@
 // What a point with fractions sees of an edge.
-#[derive(Clone, Copy)]
+#[derive(Clone, Copy, PartialEq, Eq, Debug)]
 pub enum Sight {
     // The point is on the edge.
     Border,

@@ -1,6 +1,7 @@
 // Corners at the edges of their range, and points at the ends of edges.
 use crate::{Corner, Edge, Sight, Turn, Viewer};
 use std::test::Fail;
+use terms::Point;
 
 const TOP: u64 = 0xffff_ffff_ffff_ffff;
 
@@ -67,7 +68,7 @@ fn diagonals_cross_and_neighbours_touch(rt: HostRuntime) {
 // 7/2 3, at the lower end of an edge, at the upper end of one, on a level one, and beside one.
 #[test]
 fn ends_are_seen_once(rt: HostRuntime) -> Result<(), Fail> {
-    let Some(point) = Viewer::new(7, 6, 2) else {
+    let Some(point) = Viewer::new(Point { a: 7, b: 6, w: 2 }) else {
         return Err(Fail::new("this point fits"));
     };
     assert_eq!(rt; seen(point.look(from_to(at(4, 3), at(4, 5)))), b'c');

@@ -1,5 +1,5 @@
 // How three corners turn: from the first over the second to the third.
-#[derive(Clone, Copy)]
+#[derive(Clone, Copy, PartialEq, Eq, Debug)]
 pub enum Turn {
     Left,
     Right,

@@ -14,6 +14,7 @@ use crate::extent::between;
 use crate::sight::Sight;
 use crate::turning::Turn;
 use crate::viewer::Viewer;
+use terms::Point;
 
 // Corners that are looked at have numbers below this.
 const CORNER_LIMIT: u64 = 1048576;
@@ -23,10 +24,11 @@ const SCALE_LIMIT: u64 = 1048576;
 const POINT_LIMIT: u64 = 4398046511104;
 
 impl Viewer {
-    // The point a / w, b / w; nothing if w is 0 or above 2^20, or a or b is 2^42 or more.
-    pub fn new(a: u64, b: u64, w: u64) -> Option<Viewer>
-        ensures { MatchOption result (view_fits a b w ≡ false) (λ v. (view_fits a b w ≡ true) × StandsAt v a b w) }
+    // At a point a / w, b / w; nothing if w is 0 or above 2^20, or a or b is 2^42 or more.
+    pub fn new(point: Point) -> Option<Viewer>
+        ensures { MatchOption result (view_fits point.a point.b point.w ≡ false) (λ v. (view_fits point.a point.b point.w ≡ true) × StandsAt v point.a point.b point.w) }
     {
+        let Point { a, b, w } = point;
         if w == 0 || SCALE_LIMIT < w || POINT_LIMIT <= a || POINT_LIMIT <= b {
             return None;
         }

@@ -10,7 +10,7 @@ use Rattle.ground.proofs.looking.Look.around.Given as goal
 -- with the edges that are left all is seen; the corners before the last one are in range
 abbrev pub invariant-loop-rest : goal.invariant-loop-rest
 invariant-loop-rest l =
-    (seen (point l.a l.b l.w) l.look (edges_from (at l.first) (at l.one) (shape_of l.rest)) ≡ look_of (shape_of l.row) (point l.a l.b l.w))
+    (seen (point l.fn.point.a l.fn.point.b l.fn.point.w) l.look (edges_from (at l.first) (at l.one) (shape_of l.rest)) ≡ look_of (shape_of l.row) (point l.fn.point.a l.fn.point.b l.fn.point.w))
     × (every near_corner (at l.one ∷ shape_of l.rest) ≡ every near_corner (shape_of l.row))
 
 abbrev pub decreases-loop-rest : goal.decreases-loop-rest
