@@ -1,6 +1,7 @@
 pub mod Areas
 pub mod Orientation
 pub mod Shapes
+pub mod Reasons
 pub mod Rows
 pub mod Ways
 pub mod Statements
