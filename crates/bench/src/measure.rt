@@ -1,24 +1,26 @@
 // What was measured, told.
-use std::time::Duration;
+use anyhow::Result;
+use std::time::Instant;
 
-#[derive(Clone, Copy)]
-pub(crate) struct Measured<'a> {
-    pub what: &'a str,
-    // How many were asked or put, and how many grounds were told.
-    pub count: u64,
+// How many were asked or put, and how many grounds were told.
+#[derive(Clone, Copy, Default)]
+pub(crate) struct Counted {
+    pub asked: u64,
     pub found: u64,
 }
 
-pub(crate) fn clocked(
+// Does some work, tells what it counted, and how long it took.
+pub(crate) fn clocked<F: FnOnce() -> Result<Counted>>(
     rt: &HostRuntime,
-    measured: Measured<'_>,
-    time: Duration,
-) -> anyhow::Result<()> {
-    let what = measured.what;
-    let count = measured.count;
-    let found = measured.found;
-    let micros = time.as_micros();
-    println!(rt; "{what}: {count}, grounds told: {found}")?;
-    eprintln!(rt; "{what}: {count} in {micros} microseconds")?;
+    what: &str,
+    work: F,
+) -> Result<()>
+    requires { F.IsAlwaysCallable work }
+{
+    let start = Instant::now(rt)?;
+    let Counted { asked, found } = work()?;
+    let micros = start.elapsed(rt)?.as_micros();
+    println!(rt; "{what}: {asked}, grounds told: {found}")?;
+    eprintln!(rt; "{what}: {asked} in {micros} microseconds")?;
     Ok(())
 }

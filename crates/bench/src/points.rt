@@ -1,15 +1,6 @@
-// Points to ask, always the same.
+// Points to ask, always the same: each depends on its turn.
 use atlas::entry;
-
-#[derive(Clone, Copy)]
-pub(crate) enum Kind {
-    // Anywhere on the map, with denominators up to a thousand.
-    Spread,
-    // A third of the way along an edge of a ground.
-    Shared,
-    // East of all grounds.
-    Outside,
-}
+use terms::Point;
 
 // A number that depends on the turn and on which of several it is.
 fn mixed(turn: u32, which: u64) -> u64 {
@@ -23,32 +14,40 @@ fn mixed(turn: u32, which: u64) -> u64 {
     h >> 33
 }
 
-// a, b and w.
-pub(crate) fn point(kind: Kind, turn: u32) -> (u64, u64, u64) {
-    let w = (mixed(turn, 0) % 1000).wrapping_add(1);
-    match kind {
-        Kind::Spread => (
-            (mixed(turn, 1) % 36000).wrapping_mul(w),
-            (mixed(turn, 2) % 34000)
-                .wrapping_mul(w)
-                .wrapping_add(mixed(turn, 3) % w.max(1)),
-            w,
-        ),
-        Kind::Outside => (
-            (mixed(turn, 1) % 36000).wrapping_add(60000).wrapping_mul(w),
-            (mixed(turn, 2) % 34000).wrapping_mul(w),
-            w,
-        ),
-        Kind::Shared => match entry((mixed(turn, 1) % 840) as u32) {
-            Some(ground) => {
-                let [_, _, bx, by, cx, cy, _, _] = ground.row;
-                (
-                    bx.wrapping_mul(2).wrapping_add(cx),
-                    by.wrapping_mul(2).wrapping_add(cy),
-                    3,
-                )
-            }
-            None => (0, 0, 1),
-        },
+// Up to a thousand.
+fn denominator(turn: u32) -> u64 {
+    (mixed(turn, 0) % 1000).wrapping_add(1)
+}
+
+// Anywhere on the map.
+pub(crate) fn spread(turn: u32) -> Point {
+    let w = denominator(turn);
+    Point {
+        a: (mixed(turn, 1) % 36000).wrapping_mul(w),
+        b: (mixed(turn, 2) % 34000)
+            .wrapping_mul(w)
+            .wrapping_add(mixed(turn, 3) % w.max(1)),
+        w,
+    }
+}
+
+// East of all grounds.
+pub(crate) fn outside(turn: u32) -> Point {
+    let w = denominator(turn);
+    Point {
+        a: (mixed(turn, 1) % 36000).wrapping_add(60000).wrapping_mul(w),
+        b: (mixed(turn, 2) % 34000).wrapping_mul(w),
+        w,
+    }
+}
+
+// A third of the way along an edge of a ground.
+pub(crate) fn shared(turn: u32) -> Point {
+    let [_, _, bx, by, cx, cy, _, _] =
+        entry((mixed(turn, 1) % 840) as u32).map_or([0; 8], |ground| ground.row);
+    Point {
+        a: bx.wrapping_mul(2).wrapping_add(cx),
+        b: by.wrapping_mul(2).wrapping_add(cy),
+        w: 3,
     }
 }

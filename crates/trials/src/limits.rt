@@ -1,88 +1,127 @@
 // A memory that is full, by grounds and by corners, and one that holds garbage.
 use crate::memory::Machine;
-use crate::random::Random;
 use crate::ring::Ring;
+use figures::Random;
+use map::{MEMORY_LENGTH, Told};
 use std::alloc::{AllocError, Global};
+use std::fmt;
+use std::ops::Range;
+use terms::{Point, Refusal};
 
 // How often something was asked, and how often the answer was not the one that it should be.
-#[derive(Clone, Copy)]
+#[derive(Clone, Copy, Default)]
 pub struct Outcome {
-    pub asked: u64,
-    pub wrong: u64,
+    asked: u64,
+    wrong: u64,
 }
 
 impl Outcome {
-    fn new() -> Self {
-        Outcome { asked: 0, wrong: 0 }
-    }
-
     fn note(&mut self, right: bool) {
         self.asked = self.asked.wrapping_add(1);
-        if !right {
-            self.wrong = self.wrong.wrapping_add(1);
-        }
+        self.wrong = self.wrong.wrapping_add(u64::from(!right));
+    }
+
+    fn note_full(&mut self, told: Told) {
+        self.note(told == Told::No(u64::from(Refusal::NoRoom)));
     }
 }
 
-// The triangle of a number, apart from all others: 32 columns, ten ells apart.
+impl fmt::Display for Outcome {
+    fn fmt<W: fmt::Write>(&self, f: &mut fmt::Formatter<W>) -> fmt::Result {
+        write!(f, "{} answers looked at; {} are wrong", self.asked, self.wrong)
+    }
+}
+
+// The south-west corner of the triangle of a number, which lies apart from all others: 32 columns, ten ells apart.
+fn corner(number: u64) -> (u64, u64) {
+    (
+        (number % 32).wrapping_mul(10),
+        (number / 32 % 64).wrapping_mul(10),
+    )
+}
+
 fn triangle(number: u64) -> [u64; 6] {
-    let x = (number % 32).wrapping_mul(10);
-    let y = (number / 32 % 64).wrapping_mul(10);
+    let (x, y) = corner(number);
     [x, y, x.wrapping_add(4), y, x, y.wrapping_add(4)]
 }
 
-// Each ground from `first` on is told at a point inside it, alone, if it is there, and not otherwise.
-fn told_alone(machine: &mut Machine, first: u64, end: u64, there: bool, outcome: &mut Outcome) {
-    for number in first..end {
-        let [x, y, _, _, _, _] = triangle(number);
-        let (count, found) = machine.shows(
-            x.wrapping_mul(2).wrapping_add(1),
-            y.wrapping_mul(2).wrapping_add(1),
-            2,
-            number,
-        );
-        outcome.note(found == there && (count == 1) == there);
+// A point inside the triangle of a number.
+fn inside(number: u64) -> Point {
+    let (x, y) = corner(number);
+    Point {
+        a: x.wrapping_mul(2).wrapping_add(1),
+        b: y.wrapping_mul(2).wrapping_add(1),
+        w: 2,
+    }
+}
+
+// Each ground of a range is told at a point inside it, alone.
+fn are_told(
+    heap: Global,
+    machine: &mut Machine,
+    numbers: Range<u64>,
+    outcome: &mut Outcome,
+) -> Result<(), AllocError> {
+    for number in numbers {
+        let told = machine.at_point(heap, inside(number))?;
+        outcome.note(told.as_slice() == [number].as_slice());
+    }
+    Ok(())
+}
+
+// At the points of these grounds none is told.
+fn are_gone(
+    heap: Global,
+    machine: &mut Machine,
+    numbers: Range<u64>,
+    outcome: &mut Outcome,
+) -> Result<(), AllocError> {
+    for number in numbers {
+        outcome.note(machine.at_point(heap, inside(number))?.is_empty());
+    }
+    Ok(())
+}
+
+fn put_all(machine: &mut Machine, numbers: Range<u64>, outcome: &mut Outcome) {
+    for number in numbers {
+        outcome.note(machine.put(number, &triangle(number)) == Told::Done);
     }
 }
 
 // 1,024 grounds: the next is refused with 7; after drops there is room again, and every ground still answers right.
 pub(crate) fn full_of_grounds(heap: Global) -> Result<Outcome, AllocError> {
     let mut machine = Machine::new(heap)?;
-    let mut outcome = Outcome::new();
-    for number in 0..1024u64 {
-        outcome.note(machine.put(number, &triangle(number)) == 0);
+    let mut outcome = Outcome::default();
+    put_all(&mut machine, 0..1024, &mut outcome);
+    outcome.note_full(machine.put(1024, &triangle(1024)));
+    are_told(heap, &mut machine, 0..1024, &mut outcome)?;
+    for number in 300..400 {
+        outcome.note(machine.remove(number) == Told::Done);
     }
-    outcome.note(machine.put(1024, &triangle(1024)) == 7);
-    told_alone(&mut machine, 0, 1024, true, &mut outcome);
-    for number in 300..400u64 {
-        outcome.note(machine.remove(number) == 0);
-    }
-    told_alone(&mut machine, 300, 400, false, &mut outcome);
-    told_alone(&mut machine, 0, 300, true, &mut outcome);
-    for number in 1024..1124u64 {
-        outcome.note(machine.put(number, &triangle(number)) == 0);
-    }
-    outcome.note(machine.put(300, &triangle(300)) == 7);
-    told_alone(&mut machine, 400, 1124, true, &mut outcome);
+    are_gone(heap, &mut machine, 300..400, &mut outcome)?;
+    are_told(heap, &mut machine, 0..300, &mut outcome)?;
+    put_all(&mut machine, 1024..1124, &mut outcome);
+    outcome.note_full(machine.put(300, &triangle(300)));
+    are_told(heap, &mut machine, 400..1124, &mut outcome)?;
     Ok(outcome)
 }
 
 // 128 grounds of 256 corners: the next is refused with 7, however small; after one drop there is room for it.
 pub(crate) fn full_of_corners(heap: Global) -> Result<Outcome, AllocError> {
     let mut machine = Machine::new(heap)?;
-    let mut outcome = Outcome::new();
+    let mut outcome = Outcome::default();
     let mut comb = Ring::comb(heap, 126, 4)?;
     comb.insert_corner_on_base()?;
-    for number in 0..128u64 {
-        outcome.note(machine.put(number, &comb.row) == 0);
+    for number in 0..128 {
+        outcome.note(machine.put(number, &comb.row) == Told::Done);
     }
-    outcome.note(machine.put(128, &triangle(0)) == 7);
-    let (count, found) = machine.shows(1, 1, 2, 127);
-    outcome.note(count == 128 && found);
-    outcome.note(machine.remove(64) == 0);
-    outcome.note(machine.put(128, &triangle(0)) == 0);
-    let (count, found) = machine.shows(1, 1, 2, 128);
-    outcome.note(count == 128 && found);
+    outcome.note_full(machine.put(128, &triangle(0)));
+    let all = machine.at_point(heap, inside(0))?;
+    outcome.note(all.len() == 128 && all.contains(&127));
+    outcome.note(machine.remove(64) == Told::Done);
+    outcome.note(machine.put(128, &triangle(0)) == Told::Done);
+    let all = machine.at_point(heap, inside(0))?;
+    outcome.note(all.len() == 128 && all.contains(&128));
     Ok(outcome)
 }
 
@@ -90,14 +129,14 @@ pub(crate) fn full_of_corners(heap: Global) -> Result<Outcome, AllocError> {
 pub(crate) fn garbage(heap: Global, seed: u64) -> Result<Outcome, AllocError> {
     let mut machine = Machine::new(heap)?;
     let mut random = Random::new(seed);
-    let mut outcome = Outcome::new();
+    let mut outcome = Outcome::default();
     for round in 0..24u32 {
         machine.fill_with_garbage(&mut random, 300u32.wrapping_shr(round % 8).wrapping_add(2));
         for _ in 0..400u32 {
             machine.forge_head(&mut random);
-            let number = machine.any_command(&mut random);
-            outcome.note(number <= 7 && number != 6 || number == 1000);
-            outcome.note(machine.len() == 262144);
+            let told = machine.any_command(&mut random);
+            outcome.note(matches!(told, Told::Shows(_) | Told::Done | Told::No(0..=5 | 7)));
+            outcome.note(machine.len() == MEMORY_LENGTH);
         }
     }
     Ok(outcome)

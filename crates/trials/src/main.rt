@@ -3,39 +3,35 @@
 
 mod limits;
 mod memory;
-mod random;
 mod ring;
 mod tally;
 mod winding;
 
+use figures::Random;
 use ground::{has_point, is_ground};
-use limits::Outcome;
-use random::Random;
+use limits::{full_of_corners, full_of_grounds, garbage};
 use ring::Ring;
 use std::alloc::{AllocError, Global};
 use tally::Tally;
+use terms::Point;
+
+fn ask(ring: &Ring, point: Point, tally: &mut Tally) {
+    tally.point(has_point(&ring.row, point), winding::has(&ring.row, point));
+}
 
 // Every point of the grid with the denominators 1 to `finest`.
-fn ask_all(ring: &Ring, grid: u32, finest: u32, tally: &mut Tally) {
+fn ask_all(ring: &Ring, grid: u64, finest: u64, tally: &mut Tally) {
     for w in 1..=finest {
         let end = grid.wrapping_mul(w);
         for a in 0..=end {
             for b in 0..=end {
-                let proved = has_point(&ring.row, u64::from(a), u64::from(b), u64::from(w));
-                let second = winding::has(
-                    &ring.xs,
-                    &ring.ys,
-                    i64::from(a),
-                    i64::from(b),
-                    i64::from(w),
-                );
-                tally.point(proved, second);
+                ask(ring, Point { a, b, w }, tally);
             }
         }
     }
 }
 
-fn ask_if_ground(ring: &Ring, grid: u32, finest: u32, tally: &mut Tally) {
+fn ask_if_ground(ring: &Ring, grid: u64, finest: u64, tally: &mut Tally) {
     let fine = is_ground(&ring.row).is_ok();
     tally.row(fine);
     if fine {
@@ -44,101 +40,68 @@ fn ask_if_ground(ring: &Ring, grid: u32, finest: u32, tally: &mut Tally) {
 }
 
 // Random rows of a few corners each: those that are grounds are asked.
-fn scattered(heap: Global, seed: u64, tries: u32, tally: &mut Tally) -> Result<(), AllocError> {
+fn scattered(heap: Global, seed: u64, tries: u32) -> Result<Tally, AllocError> {
+    let mut tally = Tally::default();
     let mut random = Random::new(seed);
     for _ in 0..tries {
-        let count = 3u32.wrapping_add(random.below(6));
+        let count = random.below(6).wrapping_add(3);
         let ring = Ring::scattered(heap, &mut random, count, 6)?;
-        ask_if_ground(&ring, 6, 2, tally);
+        ask_if_ground(&ring, 6, 2, &mut tally);
     }
-    Ok(())
+    Ok(tally)
 }
 
-fn built(heap: Global, tally: &mut Tally) -> Result<(), AllocError> {
-    for teeth in 1..7u32 {
-        let comb = Ring::comb(heap, teeth, 4)?;
-        ask_if_ground(&comb, 13, 3, tally);
+fn built(heap: Global) -> Result<Tally, AllocError> {
+    let mut tally = Tally::default();
+    for teeth in 1..7 {
+        ask_if_ground(&Ring::comb(heap, teeth, 4)?, 13, 3, &mut tally);
     }
-    for first in 0..16u32 {
-        let spiral = Ring::spiral(heap, first, 1)?;
-        ask_if_ground(&spiral, 8, 2, tally);
+    for first in 0..16 {
+        ask_if_ground(&Ring::spiral(heap, first, 1)?, 8, 2, &mut tally);
     }
-    for stretch in 1..4u32 {
-        let plank = Ring::plank(heap, stretch)?;
-        ask_if_ground(&plank, 8, 3, tally);
+    for stretch in 1..4 {
+        ask_if_ground(&Ring::plank(heap, stretch)?, 8, 3, &mut tally);
     }
-    Ok(())
+    Ok(tally)
 }
 
-// A spiral as large as the map allows, at points near the middles of random pairs of its corners.
-fn stretched(heap: Global, seed: u64, tally: &mut Tally) -> Result<(), AllocError> {
+// How long an ell of the largest spiral is.
+const STRETCH: u64 = 149796;
+
+// A point near the middle of a random pair of the largest spiral's corners.
+fn amid_corners(random: &mut Random) -> Point {
+    let w = u64::from(random.below(999)).wrapping_add(1);
+    let a = u64::from(random.below(1048573)).wrapping_mul(w);
+    let b = u64::from(random.below(8))
+        .wrapping_mul(STRETCH)
+        .wrapping_mul(w)
+        .wrapping_add(u64::from(random.below(3)));
+    Point {
+        a: a % 0x4000_0000,
+        b: b % 0x4000_0000,
+        w,
+    }
+}
+
+// A spiral as large as the map allows.
+fn stretched(heap: Global, seed: u64) -> Result<Tally, AllocError> {
+    let mut tally = Tally::default();
     let mut random = Random::new(seed);
-    let spiral = Ring::spiral(heap, 5, 149796)?;
+    let spiral = Ring::spiral(heap, 5, STRETCH as u32)?;
     tally.row(is_ground(&spiral.row).is_ok());
-    for _ in 0..20000u32 {
-        let w = 1u32.wrapping_add(random.below(999));
-        let a = u64::from(random.below(1048573)).wrapping_mul(u64::from(w)) & 0x3fff_ffff;
-        let b = u64::from(random.below(8))
-            .wrapping_mul(149796)
-            .wrapping_mul(u64::from(w))
-            .wrapping_add(u64::from(random.below(3)))
-            & 0x3fff_ffff;
-        let proved = has_point(&spiral.row, a, b, u64::from(w));
-        let second = winding::has(
-            &spiral.xs,
-            &spiral.ys,
-            (a & 0x3fff_ffff) as i64,
-            (b & 0x3fff_ffff) as i64,
-            i64::from(w),
-        );
-        tally.point(proved, second);
+    for _ in 0..20000 {
+        ask(&spiral, amid_corners(&mut random), &mut tally);
     }
-    Ok(())
-}
-
-fn report(rt: &HostRuntime, name: &str, tally: Tally) -> anyhow::Result<()> {
-    let rows = tally.rows;
-    let grounds = tally.grounds;
-    let points = tally.points;
-    let within = tally.within;
-    let differ = tally.differ;
-    println!(rt;
-        "{name}: {rows} rows, {grounds} of them grounds; {points} points asked both ways, {within} of them in the ground; {differ} answers differ"
-    )?;
-    Ok(())
-}
-
-fn tell(rt: &HostRuntime, name: &str, outcome: Outcome) -> anyhow::Result<()> {
-    let asked = outcome.asked;
-    let wrong = outcome.wrong;
-    println!(rt; "{name}: {asked} answers looked at; {wrong} are wrong")?;
-    Ok(())
-}
-
-fn run(rt: &HostRuntime) -> anyhow::Result<()> {
-    let heap = rt.alloc();
-    let mut random = Tally::new();
-    scattered(heap, 1, 6000, &mut random)?;
-    report(rt, "random rings", random)?;
-    let mut shaped = Tally::new();
-    built(heap, &mut shaped)?;
-    report(rt, "combs, spirals and planks", shaped)?;
-    let mut large = Tally::new();
-    stretched(heap, 2, &mut large)?;
-    report(rt, "a large spiral", large)?;
-    tell(
-        rt,
-        "a memory full of grounds",
-        limits::full_of_grounds(heap)?,
-    )?;
-    tell(
-        rt,
-        "a memory full of corners",
-        limits::full_of_corners(heap)?,
-    )?;
-    tell(rt, "memories of garbage", limits::garbage(heap, 3)?)
+    Ok(tally)
 }
 
 fn main(rt: HostRuntime) -> anyhow::Result<()> {
-    run(&rt)
+    let heap = rt.alloc();
+    println!(rt; "random rings: {}", scattered(heap, 1, 6000)?)?;
+    println!(rt; "combs, spirals and planks: {}", built(heap)?)?;
+    println!(rt; "a large spiral: {}", stretched(heap, 2)?)?;
+    println!(rt; "a memory full of grounds: {}", full_of_grounds(heap)?)?;
+    println!(rt; "a memory full of corners: {}", full_of_corners(heap)?)?;
+    println!(rt; "memories of garbage: {}", garbage(heap, 3)?)?;
+    Ok(())
 }

@@ -1,30 +1,23 @@
 // The machine at its limits: full by number, full by corners, and with a memory of garbage.
-use crate::random::Random;
+use figures::Random;
 use map::{MEMORY_LENGTH, Told, step};
 use std::alloc::{AllocError, Global};
+use terms::Point;
 
-const PUT: u64 = 0;
-
-const DROP: u64 = 1;
-
-const AT_POINT: u64 = 2;
-
-const GO_ON: u64 = 6;
+// The kinds of events, each with the number that a step takes for it.
+#[derive(Clone, Copy)]
+enum Kind {
+    Put = 0,
+    Drop = 1,
+    AtPoint = 2,
+    GoOn = 6,
+}
 
 // The machine with its memory, and the two numbers that it may show.
 #[derive(Drop)]
 pub struct Machine {
     memory: Vec<u64>,
     shown: [u64; 2],
-}
-
-// How a command ended: `Done` stands for 0, a refusal for its number, and an answer that never ends for 1000.
-fn number_of(told: Told) -> u64 {
-    match told {
-        Told::Shows(_) => 1000,
-        Told::Done => 0,
-        Told::No(number) => number,
-    }
 }
 
 impl Machine {
@@ -47,30 +40,26 @@ impl Machine {
         )
     }
 
-    pub(crate) fn put(&mut self, number: u64, row: &[u64]) -> u64 {
-        number_of(self.step(PUT, number, 0, 0, row))
+    pub(crate) fn put(&mut self, number: u64, row: &[u64]) -> Told {
+        self.step(Kind::Put as u64, number, 0, 0, row)
     }
 
-    pub(crate) fn remove(&mut self, number: u64) -> u64 {
-        number_of(self.step(DROP, number, 0, 0, &[]))
+    pub(crate) fn remove(&mut self, number: u64) -> Told {
+        self.step(Kind::Drop as u64, number, 0, 0, &[])
     }
 
-    // How many grounds are shown at a point, and whether `number` is one of them.
-    pub(crate) fn shows(&mut self, a: u64, b: u64, w: u64, number: u64) -> (u64, bool) {
-        let mut count: u64 = 0;
-        let mut found = false;
-        let mut told = self.step(AT_POINT, a, b, w, &[]);
+    // The grounds that are shown at a point.
+    pub(crate) fn at_point(&mut self, heap: Global, point: Point) -> Result<Vec<u64>, AllocError> {
+        let mut grounds = Vec::new(heap);
+        let mut told = self.step(Kind::AtPoint as u64, point.a, point.b, point.w, &[]);
         for _ in 0..2000u32 {
-            let Told::Shows(_) = told else {
+            if told != Told::Shows(1) {
                 break;
-            };
-            count = count.wrapping_add(1);
-            if self.shown[0] == number {
-                found = true;
             }
-            told = self.step(GO_ON, 0, 0, 0, &[]);
+            grounds.push(self.shown[0])?;
+            told = self.step(Kind::GoOn as u64, 0, 0, 0, &[]);
         }
-        (count, found)
+        Ok(grounds)
     }
 
     // Any numbers anywhere in the memory; most of it as small as a machine's own would be.
@@ -92,7 +81,7 @@ impl Machine {
         }
     }
 
-    pub(crate) fn any_command(&mut self, random: &mut Random) -> u64 {
+    pub(crate) fn any_command(&mut self, random: &mut Random) -> Told {
         let kind = u64::from(random.below(8));
         let a = u64::from(random.below(40));
         let b = u64::from(random.below(40));
@@ -100,7 +89,7 @@ impl Machine {
         let x = u64::from(random.below(40));
         let y = u64::from(random.below(40));
         let row = [x, y, x.wrapping_add(3), y, x, y.wrapping_add(3)];
-        number_of(self.step(kind, a, b, w, &row))
+        self.step(kind, a, b, w, &row)
     }
 
     pub(crate) fn len(&self) -> usize {

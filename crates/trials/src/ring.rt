@@ -1,29 +1,22 @@
-// Rings of corners to try: random ones, combs and spirals, each kept both as a row of numbers and as signed coordinates.
-use crate::random::Random;
+// Rings of corners to try: random ones, combs and spirals.
+use figures::{Random, SPIRAL};
 use std::alloc::{AllocError, Global};
 
+// Two numbers a corner.
 #[derive(Drop)]
 pub struct Ring {
     pub row: Vec<u64>,
-    pub xs: Vec<i64>,
-    pub ys: Vec<i64>,
 }
 
 impl Ring {
     fn empty(heap: Global) -> Self {
         Ring {
             row: Vec::new(heap),
-            xs: Vec::new(heap),
-            ys: Vec::new(heap),
         }
     }
 
     fn add(&mut self, x: u32, y: u32) -> Result<(), AllocError> {
-        self.row.push(u64::from(x))?;
-        self.row.push(u64::from(y))?;
-        self.xs.push(i64::from(x))?;
-        self.ys.push(i64::from(y))?;
-        Ok(())
+        self.row.extend_from_slice(&[u64::from(x), u64::from(y)])
     }
 
     // So many corners anywhere on a grid: most such rows are no grounds.
@@ -67,29 +60,12 @@ impl Ring {
         Ok(())
     }
 
-    // A corridor of one ell that winds inward, from its corners in a table; `stretch` is the length of an ell.
-    pub(crate) fn spiral(heap: Global, first: u32, stretch: u32) -> Result<Self, AllocError> {
-        let table: [(u32, u32); 16] = [
-            (0, 0),
-            (7, 0),
-            (7, 7),
-            (0, 7),
-            (0, 2),
-            (5, 2),
-            (5, 5),
-            (2, 5),
-            (2, 4),
-            (4, 4),
-            (4, 3),
-            (1, 3),
-            (1, 6),
-            (6, 6),
-            (6, 1),
-            (0, 1),
-        ];
+    // The spiral, begun at one of its corners; `stretch` is the length of an ell.
+    pub(crate) fn spiral(heap: Global, first: usize, stretch: u32) -> Result<Self, AllocError> {
         let mut ring = Ring::empty(heap);
-        for i in 0..16u32 {
-            let (x, y) = table[(first.wrapping_add(i) % 16) as usize];
+        let mut corners = SPIRAL;
+        corners.rotate_left(first % SPIRAL.len());
+        for [x, y] in corners {
             ring.add(x.wrapping_mul(stretch), y.wrapping_mul(stretch))?;
         }
         Ok(ring)
@@ -98,13 +74,11 @@ impl Ring {
     // A convex ring with a corner amid each level side, so that three corners stand in line.
     pub(crate) fn plank(heap: Global, stretch: u32) -> Result<Self, AllocError> {
         let mut ring = Ring::empty(heap);
-        let far = stretch.wrapping_mul(2);
-        ring.add(1, 1)?;
-        ring.add(1u32.wrapping_add(stretch), 1)?;
-        ring.add(1u32.wrapping_add(far), 1)?;
-        ring.add(1u32.wrapping_add(far), 4)?;
-        ring.add(1u32.wrapping_add(stretch), 4)?;
-        ring.add(1, 4)?;
+        let near = stretch.wrapping_add(1);
+        let far = stretch.wrapping_add(near);
+        for [x, y] in [[1, 1], [near, 1], [far, 1], [far, 4], [near, 4], [1, 4]] {
+            ring.add(x, y)?;
+        }
         Ok(ring)
     }
 }

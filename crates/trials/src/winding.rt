@@ -1,48 +1,76 @@
-// A second way of looking at a point, with code of its own: how often the ring winds round it, by the edges over the point's meridian.
+// A second way of looking at a point, with code of its own, so that no mistake is in both: how often the ring winds round it, by the edges over the point's meridian.
+use terms::Point;
 
-// Twice the signed area of the triangle of an edge and a point. All numbers here are far below 2^30, so that nothing wraps.
-fn area(ax: i64, ay: i64, bx: i64, by: i64, px: i64, py: i64) -> i64 {
-    let east = bx.wrapping_sub(ax).wrapping_mul(py.wrapping_sub(ay));
-    let north = by.wrapping_sub(ay).wrapping_mul(px.wrapping_sub(ax));
-    east.wrapping_sub(north)
+// A spot of the plane, all made as many times as large as makes the point a whole one. All numbers here are far below 2^30, so that nothing wraps.
+#[derive(Clone, Copy)]
+struct Spot {
+    x: i64,
+    y: i64,
 }
 
-// The point is seen from the edge under half a turn: it lies on the line, and between the ends.
-fn on_segment(ax: i64, ay: i64, bx: i64, by: i64, px: i64, py: i64) -> bool {
-    let east = ax.wrapping_sub(px).wrapping_mul(bx.wrapping_sub(px));
-    let north = ay.wrapping_sub(py).wrapping_mul(by.wrapping_sub(py));
-    area(ax, ay, bx, by, px, py) == 0 && east.wrapping_add(north) <= 0
+fn signed(n: u64) -> i64 {
+    i64::try_from(n).unwrap_or(i64::MAX)
 }
 
-// What an edge adds to the winding: it passes the meridian north of the point eastward or westward.
-fn passes(ax: i64, ay: i64, bx: i64, by: i64, px: i64, py: i64) -> i64 {
-    let side = area(ax, ay, bx, by, px, py);
-    if ax <= px && px < bx && side < 0 {
-        return -1;
+impl Spot {
+    fn grown(x: u64, y: u64, times: u64) -> Self {
+        Spot {
+            x: signed(x).wrapping_mul(signed(times)),
+            y: signed(y).wrapping_mul(signed(times)),
+        }
     }
-    if bx <= px && px < ax && side > 0 {
-        return 1;
+
+    fn way_to(self, other: Spot) -> Self {
+        Spot {
+            x: other.x.wrapping_sub(self.x),
+            y: other.y.wrapping_sub(self.y),
+        }
     }
-    0
+
+    // Twice the signed area that two ways span.
+    fn spanned(self, other: Spot) -> i64 {
+        let east = self.x.wrapping_mul(other.y);
+        let north = self.y.wrapping_mul(other.x);
+        east.wrapping_sub(north)
+    }
+
+    // The spot is seen from the edge under half a turn: it lies on the line, and between the ends.
+    fn is_on(self, from: Spot, to: Spot) -> bool {
+        let (back, on) = (self.way_to(from), self.way_to(to));
+        let east = back.x.wrapping_mul(on.x);
+        let north = back.y.wrapping_mul(on.y);
+        back.spanned(on) == 0 && east.wrapping_add(north) <= 0
+    }
+
+    // What an edge adds to the winding: it passes the meridian north of the spot eastward or westward.
+    fn passed_by(self, from: Spot, to: Spot) -> i64 {
+        let side = from.way_to(to).spanned(from.way_to(self));
+        if from.x <= self.x && self.x < to.x && side < 0 {
+            -1
+        } else if to.x <= self.x && self.x < from.x && side > 0 {
+            1
+        } else {
+            0
+        }
+    }
 }
 
-// The point a / w, b / w lies in the ring or on it. `xs` and `ys` are the ring's corners.
-pub(crate) fn has(xs: &[i64], ys: &[i64], a: i64, b: i64, w: i64) -> bool {
-    let (Some(last_x), Some(last_y)) = (xs.last(), ys.last()) else {
+// The point lies in the ring of a row, or on it.
+pub(crate) fn has(row: &[u64], point: Point) -> bool {
+    let (corners, _) = row.as_chunks::<2>();
+    let Some([x, y]) = corners.last() else {
         return false;
     };
-    let mut ax = last_x.wrapping_mul(w);
-    let mut ay = last_y.wrapping_mul(w);
+    let spot = Spot::grown(point.a, point.b, 1);
+    let mut from = Spot::grown(*x, *y, point.w);
     let mut winding: i64 = 0;
-    for (x, y) in xs.iter().zip(ys.iter()) {
-        let bx = x.wrapping_mul(w);
-        let by = y.wrapping_mul(w);
-        if on_segment(ax, ay, bx, by, a, b) {
+    for [x, y] in corners {
+        let to = Spot::grown(*x, *y, point.w);
+        if spot.is_on(from, to) {
             return true;
         }
-        winding = winding.wrapping_add(passes(ax, ay, bx, by, a, b));
-        ax = bx;
-        ay = by;
+        winding = winding.wrapping_add(spot.passed_by(from, to));
+        from = to;
     }
     winding != 0
 }
