@@ -4,9 +4,11 @@ use Rattle.std.specs.List.{flat_map}
 use Rattle.phrase.specs.declared.answer.Answer.{Answer}
 use Rattle.phrase.specs.declared.answer.Answer.TheVariants.{Done, Refused, Point, Lie, AllLie, Area, NotUnderstood}
 use Rattle.phrase.specs.declared.answer.Neighbour.{Neighbour}
-use Rattle.phrase.specs.declared.way.Way.{Way}
-use Rattle.phrase.specs.declared.way.Way.TheVariants.{Apart, Touch, Within, Around, Same, Over}
 use Rattle.phrase.specs.Ratios.{ratio_text}
+use Rattle.terms.specs.declared.refusal.Refusal.{Refusal}
+use Rattle.terms.specs.declared.way.Way.{Way}
+use Rattle.terms.specs.declared.way.Way.TheVariants.{Apart, Touch, Within, Around, Same, Over}
+use Rattle.terms.specs.Refusals.{refusal_number}
 
 -- how the first and the second lie
 abbrev pub lie_line : ℕ → ℕ → Way → List ℕ
@@ -32,6 +34,9 @@ abbrev pub numbers_or_none : List ℕ → List ℕ
 numbers_or_none [] = codes "none"
 numbers_or_none (n ∷ ns) = decimal n ++ flat_map after_comma ns
 
+abbrev pub refused_line : Refusal → List ℕ
+refused_line why = codes "refused " ++ (decimal (refusal_number why) ++ codes "\n")
+
 abbrev pub point_line : ℕ → ℕ → ℕ → List ℕ → List ℕ
 point_line a b w grounds = ratio_text a w ++ (codes " " ++ (ratio_text b w ++ (codes ": " ++ (numbers_or_none grounds ++ codes "\n"))))
 
@@ -44,8 +49,8 @@ unread_line line = codes "not understood: " ++ (line ++ codes "\n")
 -- each line ends in a newline
 abbrev pub answer_bytes : Answer → List ℕ
 answer_bytes Done = codes "done\n"
-answer_bytes (Refused reason) = codes "refused " ++ (decimal reason ++ codes "\n")
-answer_bytes (Point a b w grounds) = point_line a b w (vec_items grounds)
+answer_bytes (Refused why) = refused_line why
+answer_bytes (Point p grounds) = point_line p.a p.b p.w (vec_items grounds)
 answer_bytes (Lie first second way) = lie_line first second way
 answer_bytes (AllLie number rows) = all_lie_lines number (vec_items rows)
 answer_bytes (Area number twice) = area_line number twice

@@ -18,7 +18,7 @@ pub data Said : Type 0 where
 abbrev pub said : Command → Said
 said (Put number row) = put number (vec_items row)
 said (Drop number) = drops number
-said (AtPoint a b w) = at_point a b w
+said (AtPoint p) = at_point p.a p.b p.w
 said (HowLie first second) = how_lie first second
 said (AllThatLie number) = all_that_lie number
 said (AreaOf number) = area_of number

@@ -7,6 +7,5 @@ pub mod Points
 pub mod Ratios
 pub mod Reading
 pub mod Rows
-pub mod Ways
 pub mod Words
 pub mod Writing

@@ -1,12 +1,13 @@
 // What can be said to the map.
 
+use terms::Point;
+
 // A command. The row of a ground has two numbers for each corner.
-#[derive(Drop)]
+#[derive(PartialEq, Eq, Debug, Drop)]
 pub enum Command {
     Put { number: u64, row: Vec<u64> },
     Drop { number: u64 },
-    // The point a / w, b / w.
-    AtPoint { a: u64, b: u64, w: u64 },
+    AtPoint(Point),
     HowLie { first: u64, second: u64 },
     AllThatLie { number: u64 },
     AreaOf { number: u64 },

@@ -4,7 +4,7 @@ ghost use Rattle.phrase.specs.declared.fault.NotUnderstood.TheVariants.{OutOfMem
 
 use std::alloc::{AllocError, AllocFailed};
 
-#[derive(Clone, Copy)]
+#[derive(Clone, Copy, PartialEq, Eq, Debug)]
 pub enum NotUnderstood {
     // The line is no command.
     Unreadable,

@@ -7,8 +7,8 @@ ghost use Rattle.phrase.specs.Reading.{Reads};
 use crate::command::Command;
 use crate::fault::NotUnderstood;
 use crate::kind::{Kind, kind_of};
+use crate::point::read_point;
 use crate::row::{one_number, two_numbers, whole_numbers};
-use crate::spot::read_spot;
 use crate::word::Word;
 use std::alloc::Global;
 
@@ -84,14 +84,10 @@ fn lie_command(words: &[Word]) -> Result<Command, NotUnderstood>
 fn point_command(words: &[Word]) -> Result<Command, NotUnderstood>
     ensures { Reads result (point_words words.now) said }
 {
-    let Some(spot) = read_spot(words) else {
+    let Some(point) = read_point(words) else {
         return Err(NotUnderstood::Unreadable);
     };
-    Ok(Command::AtPoint {
-        a: spot.a,
-        b: spot.b,
-        w: spot.w,
-    })
+    Ok(Command::AtPoint(point))
 }
 
 // A command of names only.

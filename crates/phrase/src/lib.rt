@@ -18,15 +18,14 @@ mod grammar;
 mod kind;
 mod laws;
 mod number;
+mod point;
 mod ratio;
 mod read;
 mod row;
 mod say;
-mod spot;
 mod tell;
 #[cfg(test)]
 mod tests;
-mod way;
 mod word;
 mod words;
 
@@ -37,4 +36,3 @@ pub use laws::{common_divisor_is_greatest, decimal_places_are_exact, written_is_
 pub use read::read_command;
 pub use say::write_command;
 pub use tell::write_answer;
-pub use way::Way;

@@ -5,6 +5,7 @@ ghost use Rattle.phrase.specs.Writing.{coordinate_text, row_text, written};
 
 use crate::command::Command;
 use std::alloc::{AllocError, Global};
+use terms::Point;
 
 // Coordinate `x`, the `i`-th of its row; a comma stands between two corners.
 fn coordinate_text(heap: Global, i: usize, x: u64) -> Result<String, AllocError>
@@ -40,7 +41,7 @@ pub fn write_command(heap: Global, command: &Command) -> Result<String, AllocErr
     match command {
         Command::Put { number, row } => put_text(heap, *number, row.as_slice()),
         Command::Drop { number } => format!(in heap; "drop {number}"),
-        Command::AtPoint { a, b, w } => format!(in heap; "at point {a} {b} {w}"),
+        Command::AtPoint(Point { a, b, w }) => format!(in heap; "at point {a} {b} {w}"),
         Command::HowLie { first, second } => format!(in heap; "how lie {first}, {second}"),
         Command::AllThatLie { number } => all_text(heap, *number),
         Command::AreaOf { number } => format!(in heap; "area of {number}"),

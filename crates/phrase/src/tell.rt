@@ -1,12 +1,19 @@
 // An answer as text.
 ghost use Rattle.std.specs.Prelude.{◌≡◌, ◌++◌, IfOk, string_bytes};
 ghost use Rattle.std.specs.List.{flat_map};
-ghost use Rattle.phrase.specs.Answers.{lie_line, all_lie_lines, after_comma, numbers_or_none, point_line, area_line, unread_line, answer_bytes};
+ghost use Rattle.phrase.specs.Answers.{lie_line, all_lie_lines, after_comma, numbers_or_none, refused_line, point_line, area_line, unread_line, answer_bytes};
 
 use crate::answer::{Answer, Neighbour};
 use crate::ratio::write_ratio;
-use crate::way::Way;
 use std::alloc::{AllocError, Global};
+use terms::{Point, Refusal, Way};
+
+fn refused_text(heap: Global, refusal: Refusal) -> Result<String, AllocError>
+    ensures { IfOk result (λ s. string_bytes s ≡ refused_line refusal) }
+{
+    let reason = u64::from(refusal);
+    format!(in heap; "refused {reason}\n")
+}
 
 // How the first and the second lie.
 fn lie_text(heap: Global, first: u64, second: u64, way: Way) -> Result<String, AllocError>
@@ -61,12 +68,12 @@ fn numbers_or_none(heap: Global, numbers: &[u64]) -> Result<Vec<u8>, AllocError>
     Ok(out)
 }
 
-fn point_text(heap: Global, a: u64, b: u64, w: u64, grounds: &[u64]) -> Result<Vec<u8>, AllocError>
-    ensures { IfOk result (λ v. v.items ≡ point_line a b w grounds.now) }
+fn point_text(heap: Global, point: Point, grounds: &[u64]) -> Result<Vec<u8>, AllocError>
+    ensures { IfOk result (λ v. v.items ≡ point_line point.a point.b point.w grounds.now) }
 {
-    let mut out = write_ratio(heap, a, w)?;
+    let mut out = write_ratio(heap, point.a, point.w)?;
     out.push(b' ')?;
-    out.extend_from_slice(write_ratio(heap, b, w)?.as_slice())?;
+    out.extend_from_slice(write_ratio(heap, point.b, point.w)?.as_slice())?;
     out.extend_from_slice(b": ")?;
     out.extend_from_slice(numbers_or_none(heap, grounds)?.as_slice())?;
     out.push(b'\n')?;
@@ -94,8 +101,8 @@ pub fn write_answer(heap: Global, answer: &Answer) -> Result<Vec<u8>, AllocError
 {
     match answer {
         Answer::Done => Vec::from_slice(heap, b"done\n"),
-        Answer::Refused { reason } => Ok(format!(in heap; "refused {reason}\n")?.into_bytes()),
-        Answer::Point { a, b, w, grounds } => point_text(heap, *a, *b, *w, grounds.as_slice()),
+        Answer::Refused(refusal) => Ok(refused_text(heap, *refusal)?.into_bytes()),
+        Answer::Point { point, grounds } => point_text(heap, *point, grounds.as_slice()),
         Answer::Lie { first, second, way } => Ok(lie_text(
             heap, *first, *second, *way,
         )?.into_bytes()),

@@ -1,7 +1,7 @@
 // The words of a line: names, whole numbers, and fractions in lowest terms.
 
 // A word that the commands are named with.
-#[derive(Clone, Copy, PartialEq)]
+#[derive(Clone, Copy, PartialEq, Eq, Debug)]
 pub enum Name {
     Put,
     Drop,
@@ -19,7 +19,7 @@ pub enum Name {
 }
 
 // One word as it was understood.
-#[derive(Clone, Copy)]
+#[derive(Clone, Copy, PartialEq, Eq, Debug)]
 pub enum Word {
     Named(Name),
     Whole(u64),

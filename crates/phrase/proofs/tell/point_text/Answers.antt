@@ -10,4 +10,4 @@ returns c =
     let up = behind c.in_ok-extend_from_slice.ensures.items across (c.as_slice.ensures.value ∙ c.in_ok-write_ratio.ensures) in
     let colon = behind c.in_ok-extend_from_slice-2.ensures.items up refl in
     let grounds = behind c.in_ok-extend_from_slice-3.ensures.items colon (c.as_slice-2.ensures.value ∙ c.in_ok-numbers_or_none.ensures) in
-    behind c.in_ok-push-2.ensures.items grounds refl ∙ six_pieces (ratio_text c.args.a c.args.w) (codes " ") (ratio_text c.args.b c.args.w) (codes ": ") (numbers_or_none c.args.grounds.now) (codes "\n")
+    behind c.in_ok-push-2.ensures.items grounds refl ∙ six_pieces (ratio_text c.args.point.a c.args.point.w) (codes " ") (ratio_text c.args.point.b c.args.point.w) (codes ": ") (numbers_or_none c.args.grounds.now) (codes "\n")

@@ -4,18 +4,11 @@ ghost use Rattle.phrase.specs.Points.{ratio, near, together, point};
 
 use crate::number::greatest_common;
 use crate::word::Word;
+use terms::Point;
 
 const LARGEST_W: u128 = 1048575;
 
 const LARGEST_COORDINATE: u128 = 1099511627775;
-
-// The point a / w, b / w.
-#[derive(Clone, Copy)]
-pub struct Spot {
-    pub a: u64,
-    pub b: u64,
-    pub w: u64,
-}
 
 fn coordinate(word: Word) -> Option<(u64, u64)>
     ensures { result ≡ ratio word }
@@ -28,13 +21,13 @@ fn coordinate(word: Word) -> Option<(u64, u64)>
 }
 
 // The point a / w, b / w, if it is one that can be asked for.
-fn near_spot(a: u128, b: u128, w: u128) -> Option<Spot>
+fn near_point(a: u128, b: u128, w: u128) -> Option<Point>
     ensures { result ≡ near a b w }
 {
     if w == 0 || w > LARGEST_W || a > LARGEST_COORDINATE || b > LARGEST_COORDINATE {
         return None;
     }
-    Some(Spot {
+    Some(Point {
         a: a as u64,
         b: b as u64,
         w: w as u64,
@@ -42,7 +35,7 @@ fn near_spot(a: u128, b: u128, w: u128) -> Option<Spot>
 }
 
 // Two fractions over their least common denominator.
-fn joint_spot(across: (u64, u64), up: (u64, u64)) -> Option<Spot>
+fn joint_point(across: (u64, u64), up: (u64, u64)) -> Option<Point>
     ensures { result ≡ together across.0 across.1 up.0 up.1 }
 {
     let (m, u) = (across.0 as u128, across.1 as u128);
@@ -51,15 +44,15 @@ fn joint_spot(across: (u64, u64), up: (u64, u64)) -> Option<Spot>
     if shared == 0 {
         return None;
     }
-    near_spot(m * (v / shared), n * (u / shared), u * (v / shared))
+    near_point(m * (v / shared), n * (u / shared), u * (v / shared))
 }
 
-pub(crate) fn read_spot(words: &[Word]) -> Option<Spot>
+pub(crate) fn read_point(words: &[Word]) -> Option<Point>
     ensures { result ≡ point words.now }
 {
     match words {
-        [across, up] => joint_spot(coordinate(*across)?, coordinate(*up)?),
-        [Word::Whole(a), Word::Whole(b), Word::Whole(w)] => near_spot(
+        [across, up] => joint_point(coordinate(*across)?, coordinate(*up)?),
+        [Word::Whole(a), Word::Whole(b), Word::Whole(w)] => near_point(
             *a as u128, *b as u128, *w as u128,
         ),
         _ => None,
