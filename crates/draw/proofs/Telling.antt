@@ -6,10 +6,10 @@ use Rattle.map.specs.House.{at_point}
 use Rattle.map.specs.Promise.{Event, said}
 use Rattle.map.specs.declared.asking.End.{End}
 use Rattle.raster.specs.Signs.{sign_of}
-use Rattle.raster.specs.declared.window.Spot.{Spot}
+use Rattle.terms.specs.declared.point.Point.{Point}
 use Rattle.draw.specs.Showing.{SignTold}
 
-module _ (p : Spot) (m m₁ before after : List ℕ) (ev : Event) (asked : ev ≡ said (at_point p.a p.b p.w)) where
+module _ (p : Point) (m m₁ before after : List ℕ) (ev : Event) (asked : ev ≡ said (at_point p.a p.b p.w)) where
   -- where nothing had been shown before, what is shown after is what the sign is of
   pub sign_told : (d : End) (s : ℕ) → before ≡ [] → RanThrough m ev m₁ before after (Ok d) → s ≡ sign_of after → SignTold p m m₁ (Ok s)
   unfolding RanThrough

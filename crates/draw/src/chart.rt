@@ -7,8 +7,9 @@ ghost use Rattle.draw.specs.Showing.{SignTold};
 
 use ground::Extent;
 use map::{End, Machine, Request};
-use raster::{Spot, sign, together};
+use raster::sign;
 use std::alloc::{AllocError, Global};
+use terms::Point;
 
 // The grounds that the machine has taken, and the box around them all.
 #[derive(Drop)]
@@ -18,10 +19,10 @@ pub struct Chart {
     shown: Vec<u64>,
 }
 
-fn which_have<'a>(spot: Spot) -> Request<'a>
-    ensures { event_said result ≡ said (at_point spot.a spot.b spot.w) }
+fn which_have<'a>(point: Point) -> Request<'a>
+    ensures { event_said result ≡ said (at_point point.a point.b point.w) }
 {
-    let Spot { a, b, w } = spot;
+    let Point { a, b, w } = point;
     Request::AtPoint { a, b, w }
 }
 
@@ -40,7 +41,7 @@ impl Chart {
             .ask(Request::Put { number, row }, &mut self.shown)?;
         if let End::Done = end {
             self.extent = match (self.extent, Extent::of(row)) {
-                (Some(all), Some(one)) => Some(together(all, one)),
+                (Some(all), Some(one)) => Some(all.together(one)),
                 (None, one) => one,
                 (all, None) => all,
             };
@@ -49,11 +50,11 @@ impl Chart {
     }
 
     // The sign of what a point has.
-    pub(crate) fn sign_at(&mut self, spot: Spot) -> Result<u8, AllocError>
-        ensures { SignTold spot self.old.machine.memory.items self.new.machine.memory.items result }
+    pub(crate) fn sign_at(&mut self, point: Point) -> Result<u8, AllocError>
+        ensures { SignTold point self.old.machine.memory.items self.new.machine.memory.items result }
     {
         self.shown.clear();
-        self.machine.ask(which_have(spot), &mut self.shown)?;
+        self.machine.ask(which_have(point), &mut self.shown)?;
         Ok(sign(self.shown.as_slice()))
     }
 }

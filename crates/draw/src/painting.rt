@@ -1,7 +1,7 @@
 // The picture, row by row from the north.
 use crate::chart::Chart;
 use crate::problem::Problem;
-use raster::{Window, north_line, row_line, scale_line, south_line};
+use raster::Window;
 use std::alloc::{AllocError, Global};
 use std::io;
 use std::io::Write;
@@ -16,8 +16,8 @@ fn signs(heap: Global, chart: &mut Chart, window: Window, row: u32) -> Result<Ve
     let mut signs = Vec::new(heap);
     for column in 0..window.columns {
         // Each square of a window that is drawn has a middle that can be asked for: every_square_is_asked, fitted_is_drawn.
-        if let Some(spot) = window.middle(column, row) {
-            signs.push(chart.sign_at(spot)?)?;
+        if let Some(middle) = window.middle(column, row) {
+            signs.push(chart.sign_at(middle)?)?;
         }
     }
     Ok(signs)
@@ -34,13 +34,13 @@ fn tell_progress(rt: &HostRuntime, window: Window, drawn: u32) -> io::Result<()>
 pub(crate) fn paint(rt: &HostRuntime, chart: &mut Chart, window: Window) -> Result<(), Problem> {
     let heap = rt.alloc();
     let mut out = rt.stdout();
-    out.write_all(north_line(heap, window)?.as_slice())?;
+    out.write_all(window.north_line(heap)?.as_bytes())?;
     for row in 0..window.rows {
         let signs = signs(heap, chart, window, row)?;
-        out.write_all(row_line(heap, window, row, signs.as_slice())?.as_slice())?;
+        out.write_all(window.row_line(heap, row, signs.as_slice())?.as_slice())?;
         tell_progress(rt, window, row + 1)?;
     }
-    out.write_all(south_line(heap, window)?.as_slice())?;
-    out.write_all(scale_line(heap, window)?.as_slice())?;
+    out.write_all(window.south_line(heap)?.as_bytes())?;
+    out.write_all(window.scale_line(heap)?.as_bytes())?;
     Ok(())
 }

@@ -16,21 +16,12 @@ pub enum Problem {
     Unwritable(io::Error),
 }
 
-fn flaw_text(flaw: Flaw) -> &'static str {
-    match flaw {
-        Flaw::NoStep => "the step is 0: a square is 1 ell wide at least",
-        Flaw::NoSquares => "a picture has 1 column and 1 row at least",
-        Flaw::TooManySquares => "a picture has 256 columns and 256 rows at most",
-        Flaw::TooFar => "the window reaches too far out: its squares lie below 2^39 ells",
-    }
-}
-
 impl fmt::Display for Problem {
     fn fmt<W: fmt::Write>(&self, f: &mut fmt::Formatter<W>) -> fmt::Result {
         match self {
             Problem::Usage => write!(f, "say: draw FILE, or: draw FILE x y step columns rows"),
             Problem::NoNumber(word) => write!(f, "not a whole number, or too large: {word}"),
-            Problem::BadWindow(flaw) => f.write_str(flaw_text(*flaw)),
+            Problem::BadWindow(flaw) => write!(f, "{flaw}"),
             Problem::Unreadable(file, error) => write!(f, "cannot read {file}: {error}"),
             Problem::NoGrounds(file) => write!(f, "there are no grounds to draw in {file}"),
             Problem::OutOfMemory => write!(f, "out of memory"),

@@ -7,11 +7,11 @@ use Rattle.plane.specs.Lists.{pick, or}
 use Rattle.ground.specs.Boxes.{holds}
 use Rattle.ground.specs.declared.bounding.Extent.{Extent}
 use Rattle.raster.specs.declared.flaw.Flaw.TheVariants.{NoStep, NoSquares, TooManySquares, TooFar}
-use Rattle.raster.specs.declared.window.Spot.{Spot}
 use Rattle.raster.specs.declared.window.Window.{Window}
 use Rattle.raster.specs.Windows.{middle_of, near, has_square}
 use Rattle.raster.specs.Fitting.{box_shown, Fitted}
 use Rattle.raster.specs.Statements.{EverySquareIsAsked, FittedIsDrawn}
+use Rattle.terms.specs.declared.point.Point.{Point}
 
 -- from west to east the middles lie farther out, and so from south to north
 pub out_east : (v : Window) (i j k : ℕ) → i ≤ k → (middle_of v i j).a ≤ (middle_of v k j).a
@@ -22,11 +22,11 @@ pub out_north : (v : Window) (i j : ℕ) → (middle_of v i j).b ≤ (middle_of 
 out_north v i j =
     omega (arith, mul-le v.step (v.rows - j) v.step (v.rows - 0) (omega arith) (omega arith), mul-le v.step (v.rows - (j + 1)) v.step (v.rows - 1) (omega arith) (omega arith))
 
-near_both : (p : Spot) → p.a < 2 ^ 40 → p.b < 2 ^ 40 → near p ≡ true
+near_both : (p : Point) → p.a < 2 ^ 40 → p.b < 2 ^ 40 → near p ≡ true
 near_both p a b = grind (arith, nat_tests)
 
--- what is nearer than a spot that is near
-near_under : (p q : Spot) → p.a ≤ q.a → p.b ≤ q.b → near q ≡ true → near p ≡ true
+-- what is nearer than a point that is near
+near_under : (p q : Point) → p.a ≤ q.a → p.b ≤ q.b → near q ≡ true → near p ≡ true
 near_under p q a b h = grind (arith, nat_tests)
 
 -- of four tests in a row that find flaws, or else the window

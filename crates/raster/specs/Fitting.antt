@@ -1,13 +1,9 @@
--- Boxes around several grounds, and the window that shows a box best. Assumes nothing: these are definitions.
-use Rattle.std.specs.Prelude.{◌≡◌, ◌<◌, ◌≤◌, min, max, true, false}
+-- The window that shows a box best. Assumes nothing: these are definitions.
+use Rattle.std.specs.Prelude.{◌≡◌, ◌<◌, ◌≤◌, true, false}
 use Rattle.ground.specs.Boxes.{holds}
 use Rattle.ground.specs.declared.bounding.Extent.{Extent}
 use Rattle.raster.specs.declared.window.Window.{Window}
 use Rattle.raster.specs.Windows.{side_across, side_up}
-
--- the least box with both in it
-abbrev pub box_together : Extent → Extent → Extent
-box_together d e = record { west = min d.west e.west; south = min d.south e.south; east = max d.east e.east; north = max d.north e.north }
 
 -- the box of all squares of a window
 abbrev pub box_shown : Window → Extent

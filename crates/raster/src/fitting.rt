@@ -1,7 +1,7 @@
-// Boxes around several grounds.
+// The window that shows a box best.
 ghost use Rattle.std.specs.Prelude.{◌≡◌, ◌*◌, ◌≤◌, max};
 ghost use Rattle.ground.specs.Boxes.{raised};
-ghost use Rattle.raster.specs.Fitting.{box_together, Fitted};
+ghost use Rattle.raster.specs.Fitting.{Fitted};
 
 use crate::window::Window;
 use ground::Extent;
@@ -11,21 +11,10 @@ const MOST_COLUMNS: u64 = 78;
 
 const MOST_ROWS: u64 = 36;
 
-// The least box with both in it.
-pub fn together(one: Extent, other: Extent) -> Extent
-    ensures { result ≡ box_together one other }
-{
-    Extent {
-        west: one.west.min(other.west),
-        south: one.south.min(other.south),
-        east: one.east.max(other.east),
-        north: one.north.max(other.north),
-    }
-}
-
 // How many squares of this step a length takes, one at least.
 fn squares(length: u64, step: u64) -> u32
-    requires { (1 ≤ step) × (length ≤ 78 * step) }
+    requires some { 1 ≤ step }
+    requires few { length ≤ 78 * step }
     ensures { result ≡ max (raised length step) 1 }
 {
     length.div_ceil(step).max(1) as u32

@@ -1,14 +1,15 @@
 // Windows that can be drawn.
-ghost use Rattle.std.specs.Prelude.{◌≡◌};
-ghost use Rattle.raster.specs.Drawable.{checked};
+ghost use Rattle.std.specs.Prelude.{◌≡◌, Some};
+ghost use Rattle.raster.specs.Drawable.{checked, flaw_words};
 
 use crate::window::Window;
+use std::fmt;
 
 // A window may have so many columns, and so many rows.
 const MOST_SQUARES: u32 = 256;
 
 // Why a window cannot be drawn.
-#[derive(Clone, Copy)]
+#[derive(Clone, Copy, PartialEq, Eq, Debug)]
 pub enum Flaw {
     // Squares of no size.
     NoStep,
@@ -19,6 +20,21 @@ pub enum Flaw {
     // The middle of some square has a coordinate of 2^39 ells or more.
     TooFar,
 }
+
+impl fmt::Display for Flaw {
+    ghost output = { λ flaw. Some (flaw_words flaw) };
+
+    fn fmt<W: fmt::Write>(&self, f: &mut fmt::Formatter<W>) -> fmt::Result {
+        f.write_str(match self {
+            Flaw::NoStep => "the step is 0: a square is 1 ell wide at least",
+            Flaw::NoSquares => "a picture has 1 column and 1 row at least",
+            Flaw::TooManySquares => "a picture has 256 columns and 256 rows at most",
+            Flaw::TooFar => "the window reaches too far out: its squares lie below 2^39 ells",
+        })
+    }
+}
+
+impl std::error::Error for Flaw {}
 
 impl Window {
     // The window itself, if the machine can be asked for the middle of each of its squares; else the first flaw in the order above.

@@ -15,9 +15,8 @@ mod signs;
 mod theorems;
 mod window;
 
-pub use fitting::{fit, together};
+pub use fitting::fit;
 pub use flaw::Flaw;
-pub use picture::{north_line, row_line, scale_line, south_line};
 pub use signs::sign;
 pub use theorems::{every_square_is_asked, fitted_is_drawn};
-pub use window::{Spot, Window};
+pub use window::Window;

@@ -2,25 +2,19 @@
 ghost use Rattle.std.specs.Prelude.{◌≡◌, ◌^◌, ◌<◌};
 ghost use Rattle.raster.specs.Windows.{side_across, side_up, middle};
 
+use terms::Point;
+
 // The least number that is too large for the coordinates of a point that the machine is asked for.
 const TOO_FAR: u128 = 1 << 40;
 
 // Columns by rows of squares, step by step ells each, from the south-west corner x, y on.
-#[derive(Clone, Copy)]
+#[derive(Clone, Copy, PartialEq, Eq, Debug)]
 pub struct Window {
     pub x: u64,
     pub y: u64,
     pub step: u64,
     pub columns: u32,
     pub rows: u32,
-}
-
-// The point a / w, b / w.
-#[derive(Clone, Copy)]
-pub struct Spot {
-    pub a: u64,
-    pub b: u64,
-    pub w: u64,
 }
 
 impl Window {
@@ -41,7 +35,7 @@ impl Window {
     }
 
     // The middle of a square, row 0 being the northern one; none where the window has no such square, or the machine cannot be asked so far out.
-    pub fn middle(self, column: u32, row: u32) -> Option<Spot>
+    pub fn middle(self, column: u32, row: u32) -> Option<Point>
         ensures { result ≡ middle self column row }
     {
         if column >= self.columns || row >= self.rows {
@@ -52,7 +46,7 @@ impl Window {
         if a >= TOO_FAR || b >= TOO_FAR {
             return None;
         }
-        Some(Spot {
+        Some(Point {
             a: a as u64,
             b: b as u64,
             w: 2,
