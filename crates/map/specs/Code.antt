@@ -1,5 +1,7 @@
 -- What the values of the code stand for. Assumes nothing: these are definitions.
 use Rattle.std.specs.Prelude.{◌≡◌, ℕ, ◌+◌, ◌/◌, Bool, true, false, ◌&&◌, List, [], ◌∷◌, length, Some, None, Ok, Err, Option, Result, nat_le, nat_lt, slice_index}
+use Rattle.terms.specs.Refusals.{refusal_number}
+use Rattle.terms.specs.declared.point.Point.{Point}
 use Rattle.map.specs.Memory.{number_at, behind, end_of, Sought, sought, Listed}
 use Rattle.map.specs.Sizes.{most_grounds, most_corners, at_grounds, at_corners}
 use Rattle.ground.specs.Shapes as shapes
@@ -7,14 +9,9 @@ use Rattle.ground.specs.declared.bounding.Extent.{Extent}
 use Rattle.map.specs.Promise as promise
 use Rattle.map.specs.Promise.{shows, done, refused, Step}
 use Rattle.map.specs.Machine.{point}
-use Rattle.map.specs.declared.point.Point.{Point}
 use Rattle.map.specs.declared.scanning.Hit.{Hit}
-use Rattle.map.specs.declared.kind.Kind.{Kind}
-use Rattle.map.specs.declared.kind.Kind.TheVariants.{Put, Drop, AtPoint, HowLie, AllThat, AreaOf, GoOn}
 use Rattle.map.specs.declared.act.Act.{Act}
 use Rattle.map.specs.declared.act.Act.TheVariants.{Shows, Done, Refused}
-use Rattle.map.specs.declared.act.Refusal.{Refusal}
-use Rattle.map.specs.declared.act.Refusal.TheVariants.{OutOfRange, NotKnown, NotThere, Taken, NoGround, NoRoom}
 
 abbrev pub point_of : Point → shapes.Point
 point_of p = point p.a p.b p.w
@@ -28,19 +25,10 @@ abbrev pub Found : Result ℕ ℕ → Sought → Type 0
 Found (Ok p) g = g ≡ sought true p
 Found (Err p) g = g ≡ sought false p
 
--- each refusal has its number
-abbrev pub number_of : Refusal → ℕ
-number_of OutOfRange = 1
-number_of NotKnown = 2
-number_of NotThere = 3
-number_of Taken = 4
-number_of NoGround = 5
-number_of NoRoom = 7
-
 abbrev pub act_of : Act → promise.Act
 act_of (Shows n) = shows (n ∷ [])
 act_of Done = done
-act_of (Refused k) = refused (number_of k)
+act_of (Refused k) = refused (refusal_number k)
 
 -- the code takes a step of the machine: this memory is left, and this is done
 pub record Takes (a : Act) (memory₁ : List ℕ) (s : Step) : Type 0 where
@@ -59,13 +47,3 @@ room_for m p n = (nat_lt (slice_index m at_grounds) most_grounds && nat_le (slic
 -- a record, as its numbers are written
 abbrev pub written : ℕ → Extent → List ℕ → List ℕ
 written i e row = i ∷ length row / 2 ∷ e.west ∷ e.south ∷ e.east ∷ e.north ∷ 0 ∷ 0 ∷ row
-
--- each kind of event has its number
-abbrev pub kind_number : Kind → ℕ
-kind_number Put = 0
-kind_number Drop = 1
-kind_number AtPoint = 2
-kind_number HowLie = 3
-kind_number AllThat = 4
-kind_number AreaOf = 5
-kind_number GoOn = 6

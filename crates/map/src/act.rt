@@ -1,27 +1,17 @@
 // What the machine does at an event.
 ghost use Rattle.std.specs.Prelude.{◌≡◌, ◌≤◌, length};
 ghost use Rattle.map.specs.Entry.{ActTold};
-ghost use Rattle.map.specs.Code.{number_of, act_of};
+ghost use Rattle.map.specs.Code.{act_of};
 
 use crate::told::Told;
+use terms::Refusal;
 
-#[derive(Clone, Copy)]
+#[derive(Clone, Copy, PartialEq, Eq, Debug)]
 pub enum Act {
     // A row of one number.
     Shows(u64),
     Done,
     Refused(Refusal),
-}
-
-// Why a command is refused. What is refused changes nothing.
-#[derive(Clone, Copy)]
-pub enum Refusal {
-    OutOfRange = 1,
-    NotKnown = 2,
-    NotThere = 3,
-    Taken = 4,
-    NoGround = 5,
-    NoRoom = 7,
 }
 
 impl Act {
@@ -36,15 +26,7 @@ impl Act {
                 Told::Shows(1)
             }
             Act::Done => Told::Done,
-            Act::Refused(refusal) => Told::No(refusal.number()),
+            Act::Refused(why) => Told::No(u64::from(why)),
         }
-    }
-}
-
-impl Refusal {
-    fn number(self) -> u64
-        ensures { result ≡ number_of self }
-    {
-        self as u64
     }
 }

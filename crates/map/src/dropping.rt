@@ -7,10 +7,11 @@ ghost use Rattle.map.specs.Promise.{said};
 ghost use Rattle.map.specs.Machine.{acts};
 ghost use Rattle.map.specs.Code.{Takes};
 
-use crate::act::{Act, Refusal};
+use crate::act::Act;
 use crate::head::{count, end_of_records};
 use crate::layout::{AT_CORNERS, AT_GROUNDS, COUNT_IN_RECORD};
 use crate::records::{end_of_record, seek};
+use terms::Refusal;
 
 // The records behind one: from where on, and up to where.
 #[derive(Clone, Copy)]

@@ -4,20 +4,21 @@
 mod act;
 mod asking;
 mod dropping;
+mod event;
+mod failing;
 mod head;
-mod kind;
 mod layout;
 mod listing;
 mod machine;
 mod owner;
-mod point;
 mod promises;
 mod putting;
 mod records;
 mod scanning;
 mod told;
 
-pub use asking::{End, Request};
+pub use event::Request;
+pub use failing::AskError;
 pub use layout::MEMORY_LENGTH;
 pub use machine::step;
 pub use owner::Machine;

@@ -7,10 +7,10 @@ ghost use Rattle.map.specs.Promise.{said, next};
 ghost use Rattle.map.specs.House.{at_point};
 ghost use Rattle.map.specs.Code.{Takes, point_of};
 
-use crate::act::{Act, Refusal};
+use crate::act::Act;
 use crate::layout::{AT_A, AT_B, AT_CURSOR, AT_GROUNDS, AT_LEFT, AT_W, HEAD_LENGTH};
-use crate::point::Point;
 use crate::scanning::scan;
+use terms::{Point, Refusal};
 
 // Goes through `left` records from `place` on: shows the number of the first ground that has the point, and has the cursor stand behind it;
 // or ends the listing.
@@ -31,12 +31,19 @@ fn tell(memory: &mut [u64], p: Point, left: u64, place: u64) -> Act
     Act::Shows(hit.number)
 }
 
+// Whether a point can be asked for.
+fn in_range(p: Point) -> bool
+    ensures { result ≡ small_point (point_of p) }
+{
+    1 <= p.w && p.w < 1 << 20 && p.a < 1 << 40 && p.b < 1 << 40
+}
+
 // Begins a listing; one that was open is given up.
 pub(crate) fn list_at(memory: &mut [u64], p: Point) -> Act
     requires { length memory.old ≡ memory_length }
     ensures { Takes result memory.new (acts memory.old (said (at_point p.a p.b p.w))) }
 {
-    if !p.in_range() {
+    if !in_range(p) {
         return Act::Refused(Refusal::OutOfRange);
     }
     let grounds = memory[AT_GROUNDS];
@@ -57,7 +64,7 @@ pub(crate) fn go_on(memory: &mut [u64]) -> Act
         b: memory[AT_B],
         w: memory[AT_W],
     };
-    if !p.in_range() {
+    if !in_range(p) {
         memory[AT_CURSOR] = 0;
         return Act::Done;
     }

@@ -3,7 +3,9 @@ ghost use Rattle.std.specs.Prelude.{◌≡◌, IfOk, vec_len};
 ghost use Rattle.map.specs.Machine.{own};
 ghost use Rattle.map.specs.Asking.{event_said, RanThrough};
 
-use crate::asking::{End, Request, run};
+use crate::asking::run;
+use crate::event::Request;
+use crate::failing::AskError;
 use crate::layout::MEMORY_LENGTH;
 use std::alloc::{AllocError, Global};
 
@@ -24,7 +26,7 @@ impl Machine {
     }
 
     // Asks, goes on till it has ended, and adds the numbers that are shown to `shown`. For want of memory some of these may be missing.
-    pub fn ask(&mut self, request: Request<'_>, shown: &mut Vec<u64>) -> Result<End, AllocError>
+    pub fn ask(&mut self, request: Request<'_>, shown: &mut Vec<u64>) -> Result<(), AskError>
         ensures { RanThrough self.old.memory.items (event_said request.entry) self.new.memory.items shown.old.items shown.new.items result }
     {
         run(self.memory.as_mut_slice(), request, shown)

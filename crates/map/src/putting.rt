@@ -11,11 +11,12 @@ ghost use Rattle.map.specs.Memory.{end_of};
 ghost use Rattle.map.specs.Machine.{acts};
 ghost use Rattle.map.specs.Code.{Takes, room_for, written};
 
-use crate::act::{Act, Refusal};
+use crate::act::Act;
 use crate::head::{count, end_of_records};
 use crate::layout::{AT_CORNERS, AT_GROUNDS, MOST_CORNERS, MOST_GROUNDS, RECORD_LENGTH};
 use crate::records::seek;
 use ground::{Extent, is_ground};
+use terms::Refusal;
 
 // The box of a row that is a ground.
 fn ground_box(row: &[u64]) -> Option<Extent>

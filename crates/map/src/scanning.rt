@@ -9,12 +9,12 @@ ghost use Rattle.map.specs.Code.{point_of, box_at, Hits};
 use crate::layout::{
     EAST_IN_RECORD, NORTH_IN_RECORD, RECORD_LENGTH, SOUTH_IN_RECORD, WEST_IN_RECORD,
 };
-use crate::point::Point;
 use crate::records::end_of_record;
 use ground::{Extent, has_point};
+use terms::Point;
 
 // A ground that has the point: its number, where the next record begins, and how many there are behind it.
-#[derive(Clone, Copy)]
+#[derive(Clone, Copy, PartialEq, Eq, Debug)]
 pub struct Hit {
     pub number: u64,
     pub next: usize,
@@ -45,7 +45,7 @@ fn has_at(memory: &[u64], place: usize, end: usize, p: Point, around: Extent) ->
     ensures { result ≡ has_at memory.now place (point_of p) }
 {
     box_at(memory, place).holds(around)
-        && has_point(&memory[place + RECORD_LENGTH..end], p.a, p.b, p.w).unwrap_or(false)
+        && has_point(&memory[place + RECORD_LENGTH..end], p).unwrap_or(false)
 }
 
 // The first of `left` records from `place` on whose ground has the point.
@@ -54,7 +54,7 @@ pub(crate) fn scan(memory: &[u64], p: Point, left: u64, place: u64) -> Option<Hi
     requires p_value { small_point (point_of p) ≡ true }
     ensures { Hits memory.now result (scan memory.now (point_of p) left place) }
 {
-    let around = Extent::around(p.a, p.b, p.w)?;
+    let around = Extent::around(p)?;
     let mut left = left;
     let mut place = place as usize;
     while left > 0 {

@@ -1,5 +1,5 @@
 // What one step of the machine tells.
-#[derive(Clone, Copy)]
+#[derive(Clone, Copy, PartialEq, Eq, Debug)]
 pub enum Told {
     // So many numbers, at the front of the row that was lent for them.
     Shows(u64),

@@ -1,54 +1,70 @@
-use Rattle.std.proofs.Common.{◌≡◌, ℕ, ◌-◌, ◌≤◌, List, [], ◌++◌, take, vec_items, sym, refl, ◌∙◌, append_assoc, append-nil, arith, rules}
-use Rattle.map.specs.Asking.{event_said, RanThrough}
-use Rattle.map.proofs.Going.{way_begins, way_goes_on, way_done, way_refused, row_short, still_falls, only_done, way_told, way_ends}
+use Rattle.std.proofs.Common.{◌≡◌, ℕ, Bool, true, false, List, [], ◌∷◌, ◌++◌, cond, is_ok, Ok, Err, Result, vec_items, refl, sym, ◌∙◌, subst, append_assoc, append-nil, rules}
+use Rattle.std.specs.Result.{result_and}
+use Rattle.map.specs.Asking.{EndSaid, End, RanThrough}
+use Rattle.map.specs.declared.failing.AskError.{AskError}
+use Rattle.map.specs.declared.failing.AskError.TheVariants.{OutOfMemory}
+use Rattle.map.proofs.Going.{way_begins, way_goes_on, way_done, way_refused, way_named, way_ends, only_done, still_falls}
 use Rattle.map.proofs.asking.run.Goals as goal
 
-pub loop-told-init : goal.loop-told-init
-loop-told-init c = (c.begin-told.auto.memory ∙ c.requires, c.begin-told.auto.out, λ m ev old s. ([], [], sym (append-nil _), (λ _. refl), way_begins m ev _ _ old _ s))
+-- one number more, if it was kept
+added : (shown shown₁ t : List ℕ) (n : ℕ) (kept : Bool) → shown₁ ≡ cond kept (shown ++ n ∷ []) shown → (u : List ℕ) × (shown₁ ≡ shown ++ u) × (kept ≡ true → u ≡ n ∷ [])
+added shown shown₁ t n true e = (n ∷ [], e, λ h. refl)
+added shown shown₁ t n false e = ([], e ∙ sym (append-nil shown), λ h. cc)
 
-pub slice_bounds-add-end : goal.slice_bounds-add-end
-slice_bounds-add-end c =
-    let w = c.loop-told.invariant.2 c.args.memory.now (event_said c.args.request) _ c.begin-told.ensures in
-    let h : c.in-Shows.count ≤ 2 = row_short _ _ _ _ _ _ (way_told _ _ _ _ _ _ _ c.in-Shows.is w.4) in
-    search rules
+both_kept : {E : Type 0} (k r : Result (Unit {0}) E) → is_ok (result_and k r) ≡ true → (is_ok k ≡ true) × (is_ok r ≡ true)
+both_kept (Ok a) r h = (refl, h)
+both_kept (Err e) r h = (h, cc)
 
-pub loop-told-smaller : goal.loop-told-smaller
-loop-told-smaller c = rw c.in-Shows.is (still_falls c.in-Shows.count _ _ _ _ _ c.loop-told.invariant.0 c.go_on-told.ensures)
+wanting : (r : Result (Unit {0}) AskError) (e : End) (s t : List ℕ) → r ≡ Err OutOfMemory → EndSaid r e s t
+wanting r e s t h = rw h tt
 
--- what was added is the row that was told, as long as there was room for all
-pub loop-told-preserved : goal.loop-told-preserved
-loop-told-preserved c = (
-  c.go_on-told.auto.memory ∙ c.loop-told.invariant.0,
-  c.go_on-told.auto.out ∙ c.loop-told.invariant.1,
-  λ m ev old first.
-      let w = c.loop-told.invariant.2 m ev old first in
-      let more = c.add-full.ensures in
-      let row : List ℕ = take c.in-Shows.count c.loop-told.out in
-      let all : c.in-Shows.count - 0 ≡ c.in-Shows.count = omega arith in
-      let joined = append_assoc (vec_items c.args.shown.now) w.1 more.0 in (
-        w.0 ++ row,
-        w.1 ++ more.0,
-        (cc (w.2, more.1)),
-        (λ room. let before = w.3 (more.2 room).0 in let now = (more.2 room).1 in (cc)),
-        way_goes_on m ev c.in-Shows.count _ _ _ _ _ _ (way_told _ _ _ _ _ _ _ c.in-Shows.is w.4) c.go_on-told.ensures,
-      ),
+pub loop-done-init : goal.loop-done-init
+loop-done-init c = (
+  c.act-done.auto.memory ∙ c.requires,
+  ([], [], sym (append-nil _), (λ _. refl), way_begins _ _ _ _ c.requires c.act-done.ensures),
 )
 
-pub returns-then-full : goal.returns-then-full
-unfolding RanThrough
-returns-then-full c =
-    let w = c.loop-told.invariant.2 c.args.memory.now (event_said c.args.request) _ c.begin-told.ensures in
-    let e = way_ends _ _ _ _ _ _ c.in_default.not-Shows w.4 in
-    (w.0, e.0, w.1, e.1, w.2, tt)
+pub loop-done-smaller : goal.loop-done-smaller
+loop-done-smaller c = rw c.in-Shows.is (still_falls c.in-Shows.number _ _ _ c.loop-done.invariant.0 c.act-done-in-Shows.ensures)
 
-pub returns-in-No : goal.returns-in-No
-unfolding RanThrough
-returns-in-No c =
-    let w = c.loop-told.invariant.2 c.args.memory.now (event_said c.args.request) _ c.begin-told.ensures in
-    (w.0, _, w.1, way_refused _ _ _ _ _ _ (way_told _ _ _ _ _ _ _ c.in-No.is w.4), w.2, (refl, w.3 c.if-full.false))
+-- what was added is the number that was shown, as long as there was room for all
+pub loop-done-preserved : goal.loop-done-preserved
+loop-done-preserved c =
+    let w = c.loop-done.invariant.1 in
+    let n : ℕ = c.in-Shows.number in
+    let more = added (vec_items c.loop-done.shown) (vec_items c.push.new.self) w.1 n (is_ok c.push.result) c.push.ensures.items in
+    let joined = append_assoc (vec_items c.args.shown.now) w.1 more.0 in (
+      c.act-done-in-Shows.auto.memory ∙ c.loop-done.invariant.0,
+      (
+        w.0 ++ n ∷ [],
+        w.1 ++ more.0,
+        (cc (w.2, more.1)),
+        (λ room.
+            let both = both_kept c.loop-done.kept c.push.result (subst (λ (k : Result (Unit {0}) _). is_ok k ≡ true) c.and-kept.ensures room) in
+            let before = w.3 both.0 in
+            let now = more.2 both.1 in
+            (cc)),
+        way_goes_on _ _ n _ _ _ _ c.loop-done.invariant.0 (way_named _ _ _ _ _ _ c.in-Shows.is w.4) c.act-done-in-Shows.ensures,
+      ),
+    )
 
-pub returns-in_default-told : goal.returns-in_default-told
+pub returns-in_err-kept : goal.returns-in_err-kept
 unfolding RanThrough
-returns-in_default-told c =
-    let w = c.loop-told.invariant.2 c.args.memory.now (event_said c.args.request) _ c.begin-told.ensures in
-    (w.0, _, w.1, way_done _ _ _ _ _ (way_told _ _ _ _ _ _ _ (only_done _ c.in_default.not-Shows c.in_default-told.not-No) w.4), w.2, (refl, w.3 c.if-full.false))
+returns-in_err-kept c =
+    let w = c.loop-done.invariant.1 in
+    let e = way_ends _ _ _ _ _ c.in_default.not-Shows w.4 in
+    (w.0, e.0, w.1, e.1, w.2, wanting _ _ _ _ (search rules))
+
+pub returns-in-Refused : goal.returns-in-Refused
+unfolding RanThrough
+returns-in-Refused c =
+    let w = c.loop-done.invariant.1 in
+    let kept : is_ok c.loop-done.kept ≡ true = search rules in
+    (w.0, _, w.1, way_refused _ _ _ _ _ (way_named _ _ _ _ _ _ c.in-Refused.is w.4), w.2, (refl, w.3 kept))
+
+pub returns-in_default-done : goal.returns-in_default-done
+unfolding RanThrough
+returns-in_default-done c =
+    let w = c.loop-done.invariant.1 in
+    let kept : is_ok c.loop-done.kept ≡ true = search rules in
+    (w.0, _, w.1, way_done _ _ _ _ (way_named _ _ _ _ _ _ (only_done _ c.in_default.not-Shows c.in_default-done.not-Refused) w.4), w.2, (refl, w.3 kept))

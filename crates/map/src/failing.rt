@@ -1,0 +1,51 @@
+// Why a request is not answered.
+ghost use Rattle.std.specs.Prelude.{◌≡◌};
+ghost use Rattle.map.specs.declared.failing.AskError.TheVariants.{Refused, OutOfMemory};
+
+use std::alloc::{AllocError, AllocFailed};
+use std::error::Error;
+use std::fmt;
+use terms::Refusal;
+
+#[derive(Clone, Copy, PartialEq, Eq, Debug)]
+pub enum AskError {
+    // The machine refused it; nothing is changed.
+    Refused(Refusal),
+    // It was done or refused, but not all that was shown could be kept.
+    OutOfMemory,
+}
+
+impl From<Refusal> for AskError {
+    ghost from_gives = { λ why e. e ≡ Refused why };
+
+    fn from(refusal: Refusal) -> AskError {
+        AskError::Refused(refusal)
+    }
+}
+
+impl From<AllocError> for AskError {
+    ghost from_gives = { λ _ e. e ≡ OutOfMemory };
+
+    fn from(_error: AllocError) -> AskError {
+        AskError::OutOfMemory
+    }
+}
+
+impl<T: Drop> From<AllocFailed<T>> for AskError {
+    ghost from_gives = { λ _ e. e ≡ OutOfMemory };
+
+    fn from(_failed: AllocFailed<T>) -> AskError {
+        AskError::OutOfMemory
+    }
+}
+
+impl fmt::Display for AskError {
+    fn fmt<W: fmt::Write>(&self, f: &mut fmt::Formatter<W>) -> fmt::Result {
+        match self {
+            AskError::Refused(why) => write!(f, "refused {}", u64::from(*why)),
+            AskError::OutOfMemory => write!(f, "out of memory"),
+        }
+    }
+}
+
+impl Error for AskError {}
