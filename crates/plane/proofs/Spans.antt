@@ -1,18 +1,29 @@
 -- Products of two differences, told without differences.
-use Rattle.std.proofs.Common.{◌≡◌, ℕ, suc, ◌+◌, ◌-◌, ◌*◌, ◌<◌, ◌≤◌, ℤ, pos, negsuc, ◌*ℤ◌, ap, arith, w64, SFits}
+use Rattle.std.proofs.Common.{◌≡◌, ℕ, suc, ◌+◌, ◌*◌, ◌<◌, ◌≤◌, true, false, leb, ℤ, pos, negsuc, ◌*ℤ◌, ap, arith, w64, SFits}
 use borrow.Author.Differences.{ints, product_is}
+use mathlib.Core.Bool.{beq}
+use Rattle.std.specs.Int.{abs_diff}
 use Rattle.std.proofs.lemmas.Nat.{mul-lt}
 use Rattle.plane.specs.Areas.{above, below}
 
--- (b - a) * (d - c), multiplied out
-pub spread : (a b c d : ℕ) → a ≤ b → c ≤ d → (b - a) * (d - c) + (a * d + b * c) ≡ a * c + b * d
-spread a b c d h k =
-    let e : b ≡ a + (b - a) = omega arith in
-    let f : d ≡ c + (d - c) = omega arith in
-    rest (b - a) (d - c) b d e f
-  where
-    rest : (u v b d : ℕ) → b ≡ a + u → d ≡ c + v → u * v + (a * d + b * c) ≡ a * c + b * d
-    rest u v b d e f = omega (arith, ap (λ n. a * n) f, ap (λ n. n * c) e, ap (λ n. b * n) f, ap (λ n. n * v) e)
+-- u * v, multiplied out, where u is b - a and v is d - c
+spread : (a b c d u v : ℕ) → b ≡ a + u → d ≡ c + v → u * v + (a * d + b * c) ≡ a * c + b * d
+spread a b c d u v e f = omega (arith, ap (λ n. a * n) f, ap (λ n. n * c) e, ap (λ n. b * n) f, ap (λ n. n * v) e)
+
+module _ (a b c d u v : ℕ) (e : u ≡ abs_diff a b) (f : v ≡ abs_diff c d) where
+  -- where u and v are the sizes of the two differences, the product is added if both go the same way
+  pub spread_alike : beq (leb a b) (leb c d) ≡ true → u * v + (a * d + b * c) ≡ a * c + b * d
+  spread_alike alike =
+      let forth : a ≤ b → c ≤ d → u * v + (a * d + b * c) ≡ a * c + b * d = λ h k. spread a b c d u v (omega arith) (omega arith) in
+      let back : b < a → d < c → u * v + (a * d + b * c) ≡ a * c + b * d = λ h k. omega (arith, spread b a d c u v (omega arith) (omega arith)) in
+      grind (arith, forth, back)
+
+  -- and taken away if they do not
+  pub spread_apart : beq (leb a b) (leb c d) ≡ false → a * d + b * c ≡ u * v + (a * c + b * d)
+  spread_apart apart =
+      let forth : a ≤ b → d < c → a * d + b * c ≡ u * v + (a * c + b * d) = λ h k. omega (arith, spread a b d c u v (omega arith) (omega arith)) in
+      let back : b < a → c ≤ d → a * d + b * c ≡ u * v + (a * c + b * d) = λ h k. omega (arith, spread b a c d u v (omega arith) (omega arith)) in
+      grind (arith, forth, back)
 
 -- the difference of two numbers below m is below m in size
 size : (z : ℤ) (a b m : ℕ) → above z + a ≡ below z + b → a < m → b < m → (above z < m) × (below z < m)

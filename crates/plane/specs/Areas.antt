@@ -1,5 +1,7 @@
 -- What an area with a sign stands for: the difference of two numbers, one of which is 0. Assumes nothing: these are definitions.
 use Rattle.std.specs.Prelude.{◌≡◌, ℕ, suc, ◌*◌, ◌<◌, ℤ, pos, negsuc}
+use Rattle.std.specs.declared.cmp.Ordering.{Ordering}
+use Rattle.std.specs.declared.cmp.Ordering.TheVariants.{Less, Equal, Greater}
 use Rattle.wide.specs.Value.{value}
 use Rattle.plane.specs.declared.area.Area.{Area}
 use Rattle.plane.specs.declared.turning.Turn.{Turn}
@@ -28,6 +30,12 @@ below (negsuc n) = suc n
 -- numbers below some m and n whose product is below 2^63
 abbrev pub SmallSpan : ℕ → ℕ → ℕ → ℕ → Type 0
 SmallSpan a b c d = (m : ℕ) × (n : ℕ) × ((a < m) × (b < m)) × ((c < n) × (d < n)) × (m * n < 9223372036854775808)
+
+-- which way it turns, by how the area to the left stands to the one to the right
+abbrev pub turn_to_larger : Ordering → Turn
+turn_to_larger Less = Right
+turn_to_larger Equal = Straight
+turn_to_larger Greater = Left
 
 -- a turn to the side of the larger of two numbers
 abbrev pub Leans : ℕ → ℕ → Turn → Type 0

@@ -19,16 +19,11 @@ impl Area {
     pub(crate) fn spanned(a: u64, b: u64, c: u64, d: u64) -> Area
         ensures { up result + (a * d + b * c) ≡ down result + (a * c + b * d) }
     {
-        if a <= b {
-            if c <= d {
-                Area::Plus(Wide::product(b - a, d - c))
-            } else {
-                Area::Minus(Wide::product(b - a, c - d))
-            }
-        } else if c <= d {
-            Area::Minus(Wide::product(a - b, d - c))
+        let size = Wide::product(a.abs_diff(b), c.abs_diff(d));
+        if (a <= b) == (c <= d) {
+            Area::Plus(size)
         } else {
-            Area::Plus(Wide::product(a - b, c - d))
+            Area::Minus(size)
         }
     }
 
@@ -36,7 +31,7 @@ impl Area {
     pub(crate) fn compare(self, other: Area) -> Ordering
         ensures { MatchOrdering result (up self + down other < up other + down self) (up self + down other ≡ up other + down self) (up other + down self < up self + down other) }
     {
-        let nothing = Wide::from_word(0);
+        let nothing = Wide::from(0_u64);
         match (self, other) {
             (Area::Plus(a), Area::Plus(b)) => a.compare(b),
             (Area::Minus(a), Area::Minus(b)) => b.compare(a),
@@ -66,11 +61,5 @@ fn difference(a: u64, b: u64) -> i64
 pub fn leaning(left: i64, right: i64) -> Turn
     ensures { Leans (above left + below right) (above right + below left) result }
 {
-    if left > right {
-        Turn::Left
-    } else if left < right {
-        Turn::Right
-    } else {
-        Turn::Straight
-    }
+    Turn::from(left.cmp(&right))
 }

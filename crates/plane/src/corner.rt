@@ -2,11 +2,12 @@
 ghost use Rattle.std.specs.Prelude.{◌≡◌, true};
 ghost use Rattle.plane.specs.Bounds.{all_within};
 ghost use Rattle.plane.specs.Code.{at, TurnsSo};
-ghost use Rattle.plane.specs.Corners.{same_corner};
 
 use crate::area::{Area, leaning, small_area};
 use crate::turning::Turn;
-use std::cmp::Ordering;
+
+// Corners of grounds, and those that are looked at, have numbers below this.
+pub const CORNER_LIMIT: u64 = 1048576;
 
 // Turns of corners below this are found without numbers of 128 bits.
 const NEAR_LIMIT: u64 = 2147483648;
@@ -19,13 +20,6 @@ pub struct Corner {
 }
 
 impl Corner {
-    // Whether both are the same corner.
-    pub fn same(self, other: Corner) -> bool
-        ensures { result ≡ same_corner (at self) (at other) }
-    {
-        self.x == other.x && self.y == other.y
-    }
-
     // How it turns on the way from this corner over b to c.
     pub fn turn(self, b: Corner, c: Corner) -> Turn
         ensures { TurnsSo (at self) (at b) (at c) result }
@@ -43,11 +37,7 @@ impl Corner {
     {
         let left = Area::spanned(self.x, b.x, self.y, c.y);
         let right = Area::spanned(self.y, b.y, self.x, c.x);
-        match left.compare(right) {
-            Ordering::Less => Turn::Right,
-            Ordering::Equal => Turn::Straight,
-            Ordering::Greater => Turn::Left,
-        }
+        Turn::from(left.compare(right))
     }
 
     // The same where no area leaves 64 bits.

@@ -22,16 +22,9 @@ impl Edge {
     pub fn on_edge(self, c: Corner) -> bool
         ensures { result ≡ on_edge (along self) (at c) }
     {
-        if !between(self.one.x, self.other.x, c.x) {
-            return false;
-        }
-        if !between(self.one.y, self.other.y, c.y) {
-            return false;
-        }
-        match self.side(c) {
-            Turn::Straight => true,
-            _ => false,
-        }
+        between(self.one.x, self.other.x, c.x)
+            && between(self.one.y, self.other.y, c.y)
+            && self.side(c) == Turn::Straight
     }
 
     // Whether each edge has its ends on the two sides of the other.
@@ -53,16 +46,10 @@ impl Edge {
         ensures { result ≡ or (rises (along self) (at c)) (falls (along self) (at c)) }
     {
         if self.one.y <= c.y && c.y < self.other.y {
-            return match self.side(c) {
-                Turn::Left => true,
-                _ => false,
-            };
+            return self.side(c) == Turn::Left;
         }
         if self.other.y <= c.y && c.y < self.one.y {
-            return match self.side(c) {
-                Turn::Right => true,
-                _ => false,
-            };
+            return self.side(c) == Turn::Right;
         }
         false
     }
@@ -78,22 +65,20 @@ impl Edge {
     fn parts(self, f: Edge) -> bool
         ensures { result ≡ parts (along self) (along f) }
     {
-        match (self.side(f.one), self.side(f.other)) {
-            (Turn::Left, Turn::Right) => true,
-            (Turn::Right, Turn::Left) => true,
-            _ => false,
-        }
+        matches!(
+            (self.side(f.one), self.side(f.other)),
+            (Turn::Left, Turn::Right) | (Turn::Right, Turn::Left)
+        )
     }
 
     // Whether both ends of f lie on the one side of this edge.
     fn leaves_aside(self, f: Edge) -> bool
         ensures { result ≡ leaves_aside (along self) (along f) }
     {
-        match (self.side(f.one), self.side(f.other)) {
-            (Turn::Left, Turn::Left) => true,
-            (Turn::Right, Turn::Right) => true,
-            _ => false,
-        }
+        matches!(
+            (self.side(f.one), self.side(f.other)),
+            (Turn::Left, Turn::Left) | (Turn::Right, Turn::Right)
+        )
     }
 
     // Whether the bounding boxes of the two have a point in common.

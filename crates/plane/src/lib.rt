@@ -15,12 +15,12 @@ mod theorems;
 mod turning;
 mod viewer;
 
-pub use corner::Corner;
+pub use corner::{CORNER_LIMIT, Corner};
 pub use edge::Edge;
 pub use entry::turn;
 pub use extent::between;
 pub use reply::Reply;
 pub use sight::Sight;
-pub use theorems::{crossing_parity, meets_both_ways, turn_cycles, turn_reverses};
+pub use theorems::{crossing_parity, equal_corners, meets_both_ways, turn_cycles, turn_reverses};
 pub use turning::Turn;
 pub use viewer::Viewer;

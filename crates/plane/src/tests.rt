@@ -15,39 +15,22 @@ fn from_to(a: Corner, b: Corner) -> Edge {
     Edge { one: a, other: b }
 }
 
-fn sign(t: Turn) -> u8 {
-    match t {
-        Turn::Left => b'<',
-        Turn::Right => b'>',
-        Turn::Straight => b'=',
-    }
-}
-
-fn seen(s: Option<Sight>) -> u8 {
-    match s {
-        Some(Sight::Border) => b'b',
-        Some(Sight::Crossed) => b'c',
-        Some(Sight::Missed) => b'm',
-        None => b'-',
-    }
-}
-
 #[test]
 fn turns_at_the_limits(rt: HostRuntime) {
     let origin = at(0, 0);
-    assert_eq!(rt; sign(origin.turn(at(FAR, FAR), at(FAR - 1, FAR))), b'<');
-    assert_eq!(rt; sign(origin.turn(at(TOP, TOP), at(TOP - 1, TOP))), b'<');
-    assert_eq!(rt; sign(origin.turn(at(TOP, TOP), at(TOP, TOP - 1))), b'>');
-    assert_eq!(rt; sign(at(TOP, 0).turn(at(0, TOP), at(1, TOP - 1))), b'=');
-    assert_eq!(rt; sign(at(TOP, TOP).turn(origin, at(FAR, FAR))), b'=');
+    assert_eq!(rt; origin.turn(at(FAR, FAR), at(FAR - 1, FAR)), Turn::Left);
+    assert_eq!(rt; origin.turn(at(TOP, TOP), at(TOP - 1, TOP)), Turn::Left);
+    assert_eq!(rt; origin.turn(at(TOP, TOP), at(TOP, TOP - 1)), Turn::Right);
+    assert_eq!(rt; at(TOP, 0).turn(at(0, TOP), at(1, TOP - 1)), Turn::Straight);
+    assert_eq!(rt; at(TOP, TOP).turn(origin, at(FAR, FAR)), Turn::Straight);
 }
 
 // The product of 2^32 and 2^32 is 0 in 64 bits: it would seem less than 1, and the turn one to the right.
 #[test]
 fn a_product_that_wraps_turns_left(rt: HostRuntime) {
     assert_eq!(rt;
-        sign(at(0, 0).turn(at(0x1_0000_0000, 1), at(1, 0x1_0000_0000))),
-        b'<'
+        at(0, 0).turn(at(0x1_0000_0000, 1), at(1, 0x1_0000_0000)),
+        Turn::Left
     );
 }
 
@@ -71,11 +54,26 @@ fn ends_are_seen_once(rt: HostRuntime) -> Result<(), Fail> {
     let Some(point) = Viewer::new(Point { a: 7, b: 6, w: 2 }) else {
         return Err(Fail::new("this point fits"));
     };
-    assert_eq!(rt; seen(point.look(from_to(at(4, 3), at(4, 5)))), b'c');
-    assert_eq!(rt; seen(point.look(from_to(at(4, 3), at(5, 0)))), b'm');
-    assert_eq!(rt; seen(point.look(from_to(at(4, 3), at(3, 3)))), b'b');
-    assert_eq!(rt; seen(point.look(from_to(at(5, 3), at(4, 3)))), b'm');
-    assert_eq!(rt; seen(point.look(from_to(at(3, 2), at(4, 4)))), b'b');
-    assert_eq!(rt; seen(point.look(from_to(at(0, 0), at(0x10_0000, 0)))), b'-');
+    assert_eq!(rt;
+        point.look(from_to(at(4, 3), at(4, 5))),
+        Some(Sight::Crossed)
+    );
+    assert_eq!(rt;
+        point.look(from_to(at(4, 3), at(5, 0))),
+        Some(Sight::Missed)
+    );
+    assert_eq!(rt;
+        point.look(from_to(at(4, 3), at(3, 3))),
+        Some(Sight::Border)
+    );
+    assert_eq!(rt;
+        point.look(from_to(at(5, 3), at(4, 3))),
+        Some(Sight::Missed)
+    );
+    assert_eq!(rt;
+        point.look(from_to(at(3, 2), at(4, 4))),
+        Some(Sight::Border)
+    );
+    assert_eq!(rt; point.look(from_to(at(0, 0), at(0x10_0000, 0))), None);
     Ok(())
 }

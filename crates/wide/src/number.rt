@@ -8,21 +8,15 @@ use std::cmp::Ordering;
 #[cfg(test)]
 mod tests;
 
-// A whole number in two words: `high` times 2^64, and `low`. Every pair of words is one, and each number has one pair.
-#[derive(Clone, Copy)]
+// A whole number in two words: `high` times 2^64, and `low`. Every pair of words is one, and each number has one pair: so the order of the fields is that of the
+// numbers.
+#[derive(Clone, Copy, PartialEq, Eq, PartialOrd, Ord, Debug)]
 pub struct Wide {
     high: u64,
     low: u64,
 }
 
 impl Wide {
-    // A word as it is.
-    pub fn from_word(n: u64) -> Wide
-        ensures { value result ≡ n }
-    {
-        Wide { high: 0, low: n }
-    }
-
     // The product of two words, which always fits.
     pub fn product(a: u64, b: u64) -> Wide
         ensures { value result ≡ a * b }
@@ -54,23 +48,22 @@ impl Wide {
     pub fn compare(self, other: Wide) -> Ordering
         ensures { MatchOrdering result (value self < value other) (value self ≡ value other) (value other < value self) }
     {
-        if self.high < other.high {
-            Ordering::Less
-        } else if other.high < self.high {
-            Ordering::Greater
-        } else if self.low < other.low {
-            Ordering::Less
-        } else if other.low < self.low {
-            Ordering::Greater
-        } else {
-            Ordering::Equal
-        }
+        self.cmp(&other)
     }
 
     // Whether both are the same number.
     pub fn equals(self, other: Wide) -> bool
         ensures { result ≡ (value self == value other) }
     {
-        self.high == other.high && self.low == other.low
+        self == other
+    }
+}
+
+// A word as it is.
+impl From<u64> for Wide {
+    ghost from_gives = { λ n w. value w ≡ n };
+
+    fn from(n: u64) -> Wide {
+        Wide { high: 0, low: n }
     }
 }

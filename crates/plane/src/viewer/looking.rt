@@ -8,7 +8,7 @@ ghost use Rattle.plane.specs.Levels.{Floors, Ceils};
 ghost use Rattle.plane.specs.Sights.{StandsAt, view_fits, near_edge, SeenSo, place};
 
 use crate::area::{leaning, small_area};
-use crate::corner::Corner;
+use crate::corner::{CORNER_LIMIT, Corner};
 use crate::edge::Edge;
 use crate::extent::between;
 use crate::sight::Sight;
@@ -16,8 +16,6 @@ use crate::turning::Turn;
 use crate::viewer::Viewer;
 use terms::Point;
 
-// Corners that are looked at have numbers below this.
-const CORNER_LIMIT: u64 = 1048576;
 // The largest denominator of a point.
 const SCALE_LIMIT: u64 = 1048576;
 // The numerators of a point are below this.

@@ -13,13 +13,13 @@ fn products_of_the_largest_words(rt: HostRuntime) {
     let carried = Wide::product(0x1_0000_0000, 0x1_0000_0000);
     assert!(rt; carried.high == 1);
     assert!(rt; carried.low == 0);
-    assert!(rt; Wide::product(TOP, 0).equals(Wide::from_word(0)));
+    assert!(rt; Wide::product(TOP, 0).equals(Wide::from(0_u64)));
 }
 
 #[test]
 fn sums_carry_or_do_not_fit(rt: HostRuntime) -> Result<(), Fail> {
-    let word = Wide::from_word(TOP);
-    let Some(sum) = word.sum(Wide::from_word(1)) else {
+    let word = Wide::from(TOP);
+    let Some(sum) = word.sum(Wide::from(1_u64)) else {
         return Err(Fail::new("this sum fits"));
     };
     assert!(rt; sum.high == 1 && sum.low == 0);
@@ -37,7 +37,7 @@ fn sums_carry_or_do_not_fit(rt: HostRuntime) -> Result<(), Fail> {
 #[test]
 fn the_high_word_decides(rt: HostRuntime) {
     let high = Wide::product(0x1_0000_0000, 0x1_0000_0000);
-    assert_eq!(rt; high.compare(Wide::from_word(TOP)), Ordering::Greater);
-    assert_eq!(rt; Wide::from_word(TOP).compare(high), Ordering::Less);
+    assert_eq!(rt; high.compare(Wide::from(TOP)), Ordering::Greater);
+    assert_eq!(rt; Wide::from(TOP).compare(high), Ordering::Less);
     assert_eq!(rt; high.compare(high), Ordering::Equal);
 }
