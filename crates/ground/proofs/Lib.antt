@@ -16,6 +16,7 @@ pub mod Insides
 pub mod Ways
 pub mod Examples
 pub mod Rows
+pub mod Around
 pub mod Boxes
 pub mod Looks
 pub mod Fronts

@@ -10,3 +10,4 @@ pub mod Boxes
 pub mod Looks
 pub mod Paths
 pub mod Refusals
+pub mod Walks

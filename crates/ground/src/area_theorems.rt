@@ -5,64 +5,46 @@ ghost use Rattle.ground.specs.Orientation.{AmidOdd, LeftHand};
 ghost use Rattle.ground.specs.Areas.{AreaIsMeasure, CellsAreWhole, CommonMultiple, SameArea, PartsAdd};
 
 // Cut along a line from corner to corner, areas add up.
-pub fn cut_areas_add_up() -> u8
+pub fn cut_areas_add_up()
     ensures { CutAdds }
-{
-    0
-}
+{}
 
 // Amid an edge of a ground the parity says which way the edge goes.
-pub fn parity_amid_edges() -> u8
+pub fn parity_amid_edges()
     ensures { AmidOdd }
-{
-    0
-}
+{}
 
 // What is just left of an edge of a ground is inside, what is just right of it outside.
-pub fn ground_is_on_the_left() -> u8
+pub fn ground_is_on_the_left()
     ensures { LeftHand }
-{
-    0
-}
+{}
 
 // The area of a ground is the sum of the lengths of its cross-sections, counted in cells.
-pub fn area_is_measure() -> u8
+pub fn area_is_measure()
     ensures { AreaIsMeasure }
-{
-    0
-}
+{}
 
 // The points of a cross-section within one cell are all inside, or none is.
-pub fn cells_are_whole() -> u8
+pub fn cells_are_whole()
     ensures { CellsAreWhole }
-{
-    0
-}
+{}
 
 // Cells that measure a ground exist.
-pub fn cells_exist() -> u8
+pub fn cells_exist()
     ensures { CommonMultiple }
-{
-    0
-}
+{}
 
 // What is within another ground has no more area.
-pub fn within_has_no_more_area() -> u8
+pub fn within_has_no_more_area()
     ensures { AreaLess }
-{
-    0
-}
+{}
 
 // Grounds with the same points have the same area.
-pub fn same_points_same_area() -> u8
+pub fn same_points_same_area()
     ensures { SameArea }
-{
-    0
-}
+{}
 
 // Two grounds that share no point inside, and make up a third, add up to its area.
-pub fn parts_add_up() -> u8
+pub fn parts_add_up()
     ensures { PartsAdd }
-{
-    0
-}
+{}

@@ -12,6 +12,7 @@ mod ring;
 mod tests;
 mod theorems;
 mod validity;
+mod walks;
 
 pub use area::twice_area;
 pub use area_theorems::{
@@ -26,3 +27,4 @@ pub use theorems::{
     some_point_is_inside, within_within, worked_examples_hold,
 };
 pub use validity::is_ground;
+pub use walks::{Corners, Edges};

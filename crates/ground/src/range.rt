@@ -6,9 +6,7 @@ ghost use Rattle.plane.specs.Code.{at};
 ghost use Rattle.plane.specs.Lists.{every};
 ghost use Rattle.ground.specs.Rows.{near_corner};
 
-use plane::Corner;
-
-const CORNER_LIMIT: u64 = 1048576;
+use plane::{CORNER_LIMIT, Corner};
 
 // The number of the first corner out of range.
 pub(crate) fn first_far(row: &[u64]) -> Option<u64>

@@ -100,5 +100,5 @@ fn fits_last(number: u64, e: Edge, last: Edge) -> bool
 fn joined(e: Edge, f: Edge) -> bool
     ensures { result ≡ neighbours_fine (along e) (along f) }
 {
-    e.other.same(f.one) && !e.on_edge(f.other) && !f.on_edge(e.one) && !e.one.same(e.other)
+    e.other == f.one && !e.on_edge(f.other) && !f.on_edge(e.one) && e.one != e.other
 }

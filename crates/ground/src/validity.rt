@@ -72,8 +72,5 @@ fn gone_left(row: &[u64]) -> Result<u64, NoGround>
     requires { (InRange row.now) × (ring_clear (edges (shape_of row.now)) ≡ true) }
     ensures { MatchResult result (λ n. (is_ground row.now ≡ true) × (n ≡ twice_area (shape_of row.now))) (λ why. Refuses row.now why) }
 {
-    let Some(area) = area_to_the_left(row) else {
-        return Err(NoGround::Clockwise);
-    };
-    Ok(area)
+    area_to_the_left(row).ok_or(NoGround::Clockwise)
 }
