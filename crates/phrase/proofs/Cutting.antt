@@ -1,9 +1,8 @@
 -- Cutting a line into words, byte by byte.
-use Rattle.std.proofs.Common.{◌≡◌, ℕ, ◌+◌, ◌-◌, ◌<◌, ◌≤◌, true, false, List, [], ◌∷◌, ◌++◌, length, get_or, take, drop, Some, Ok, Err, Option, sym, refl, ap, ◌∙◌, append_assoc, append-nil, arith, length-drop}
-use native.Mathlib.Nat.{sub_self}
-use Rattle.std.specs.List.{between}
-use Rattle.std.proofs.lemmas.List.Edits.{between_more}
-use Rattle.std.proofs.lemmas.List.{drop_more, drop_all, take_more, take_all}
+use Rattle.std.proofs.Common.{◌≡◌, ℕ, ◌+◌, ◌-◌, ◌<◌, ◌≤◌, Bool, true, false, cond, List, [], ◌∷◌, ◌++◌, length, get_or, take, drop, Some, Ok, Err, Option, sym, refl, ap, ◌∙◌, append_assoc, append-nil, arith, length-drop}
+use Rattle.std.specs.List.{slice_split, onto_first}
+use Rattle.std.proofs.lemmas.List.{drop_more, drop_all, take_more, take_all, at_drop_more, at_drop_all}
+use Rattle.std.proofs.lemmas.List.Splits.{length-slice_split}
 use Rattle.std.proofs.lemmas.Bool.{cond-true, cond-false}
 use Rattle.phrase.specs.declared.fault.NotUnderstood.{NotUnderstood}
 use Rattle.phrase.specs.declared.fault.NotUnderstood.TheVariants.{Unreadable, OutOfMemory}
@@ -76,37 +75,48 @@ pub no_words : (xs : List Word) → prefixed xs (all_words []) ≡ Some xs
 unfolding all_words
 no_words xs = nothing_more xs
 
--- Below, w is the part of the text from `start` to `i`, a word that is being read; m is what the whole text means.
-abbrev Left : List Word → List ℕ → List ℕ → Option (List Word) → Type 0
-Left xs w bs m = prefixed xs (all_words (cut w bs)) ≡ m
+-- the words among parts: those that have any bytes
+abbrev pub closes : List (List ℕ) → List (List ℕ)
+closes [] = []
+closes (w ∷ ws) = closed w (closes ws)
 
-no_part : (text : List ℕ) (i : ℕ) → between i i text ≡ []
-no_part text i = ap (λ n. take n (drop i text)) (sub_self i)
+-- a part of a word before what begins with its rest
+abbrev onto_word : List ℕ → List (List ℕ) → List (List ℕ)
+onto_word w [] = []
+onto_word w (part ∷ parts) = (w ++ part) ∷ parts
 
-module _ (text : List ℕ) (start i : ℕ) (xs : List Word) (m : Option (List Word)) (within : i < length text) (left : Left xs (between start i text) (drop i text) m) where
-  -- a separator closes the word
-  at_separator : true ≡ separates (get_or text i 0) → prefixed xs (all_words (closed (between start i text) (cut [] (drop (i + 1) text)))) ≡ m
-  at_separator e = ap (λ ws. prefixed xs (all_words ws)) (sym (ap (cut _) (drop_more text i 0 within) ∙ cut_separated _ _ _ (sym e))) ∙ left
+onto_none : (parts : List (List ℕ)) → onto_word [] parts ≡ parts
+onto_none [] = refl
+onto_none (part ∷ parts) = refl
 
-  pub word_ends : (ys : List Word) → true ≡ separates (get_or text i 0) → Closes (Ok tt) (between start i text) xs ys → Left ys (between (i + 1) (i + 1) text) (drop (i + 1) text) m
-  word_ends ys e h = rw (no_part text (i + 1)) (sym (closed_ok _ _ xs ys h) ∙ at_separator e)
+byte_onto : (w : List ℕ) (b : ℕ) (parts : List (List ℕ)) → 0 < length parts → closes (onto_word (w ++ (b ∷ [])) parts) ≡ closes (onto_word w (onto_first b parts))
+byte_onto w b [] h = absurd (omega arith)
+byte_onto w b (part ∷ parts) h = ap (λ v. closed v (closes parts)) (append_assoc w (b ∷ []) part)
 
-  pub word_fails : (fault : NotUnderstood) (ys : List Word) {X : Type 0} (f : X → List Word) → true ≡ separates (get_or text i 0) → Closes (Err fault) (between start i text) xs ys → Reads (Err fault) m f
-  word_fails fault ys f e h = closed_not fault (between start i text) (cut [] (drop (i + 1) text)) xs ys xs m f h (at_separator e)
+parts_of : (t : Bool) (w : List ℕ) (b : ℕ) (bs : List ℕ) → ((v : List ℕ) → cut v bs ≡ closes (onto_word v (slice_split separates bs))) → cond t (closed w (cut [] bs)) (cut (w ++ (b ∷ [])) bs) ≡ closes (onto_word w (cond t ([] ∷ slice_split separates bs) (onto_first b (slice_split separates bs))))
+parts_of true w b bs h =
+    ap (closed w) (h [] ∙ ap closes (onto_none (slice_split separates bs))) ∙ ap (λ v. closed v (closes (slice_split separates bs))) (sym (append-nil w))
+parts_of false w b bs h = h (w ++ (b ∷ [])) ∙ byte_onto w b (slice_split separates bs) (omega (arith, length-slice_split separates bs))
 
-  -- another byte belongs to the word
-  pub word_goes_on : start ≤ i → false ≡ separates (get_or text i 0) → Left xs (between start (i + 1) text) (drop (i + 1) text) m
-  word_goes_on h e =
-      rw (between_more text start i 0 h within) (ap (λ ws. prefixed xs (all_words ws)) (sym (ap (cut _) (drop_more text i 0 within) ∙ cut_on _ _ _ (sym e))) ∙ left)
+-- words are cut where the text is split
+cut_parts : (w bs : List ℕ) → cut w bs ≡ closes (onto_word w (slice_split separates bs))
+unfolding cut
+cut_parts w [] = ap (λ v. closed v []) (sym (append-nil w))
+cut_parts w (b ∷ bs) = parts_of (separates b) w b bs (λ v. cut_parts v bs)
 
-module _ (text : List ℕ) (start i : ℕ) (xs : List Word) (m : Option (List Word)) (past : length text ≤ i) (up : i ≤ length text) (left : Left xs (between start i text) (drop i text) m) where
-  at_end : prefixed xs (all_words (closed (between start (length text) text) [])) ≡ m
-  at_end =
-      let all : i ≡ length text = omega arith in
-      ap (λ n. prefixed xs (all_words (closed (between start n text) []))) (sym all) ∙ ap (λ ws. prefixed xs (all_words ws)) (sym (ap (cut _) (drop_all i text past) ∙ cut_end _)) ∙ left
+pub cut_is_split : (text : List ℕ) → closes (slice_split separates text) ≡ cut [] text
+cut_is_split text = ap closes (sym (onto_none (slice_split separates text))) ∙ sym (cut_parts [] text)
 
-  pub last_ends : (ys : List Word) → Closes (Ok tt) (between start (length text) text) xs ys → m ≡ Some ys
-  last_ends ys h = sym at_end ∙ closed_ok _ _ xs ys h ∙ no_words ys
+-- Below, part i is the next, and m is what the whole text means.
+module _ (parts : List (List ℕ)) (i : ℕ) (xs : List Word) (m : Option (List Word)) (part : List ℕ) (next : (i < length parts) × (part ≡ get_or parts i part)) (left : prefixed xs (all_words (closes (drop i parts))) ≡ m) where
+  at_part : prefixed xs (all_words (closed part (closes (drop (i + 1) parts)))) ≡ m
+  at_part = sym (at_drop_more (λ ps. prefixed xs (all_words (closes ps))) parts i part next.0 ∙ ap (λ p. prefixed xs (all_words (closed p (closes (drop (i + 1) parts))))) (sym next.1)) ∙ left
 
-  pub last_fails : (fault : NotUnderstood) (ys : List Word) {X : Type 0} (f : X → List Word) → Closes (Err fault) (between start (length text) text) xs ys → Reads (Err fault) m f
-  last_fails fault ys f h = closed_not fault (between start (length text) text) [] xs ys xs m f h at_end
+  pub part_ends : (ys : List Word) → Closes (Ok tt) part xs ys → prefixed ys (all_words (closes (drop (i + 1) parts))) ≡ m
+  part_ends ys h = sym (closed_ok part (closes (drop (i + 1) parts)) xs ys h) ∙ at_part
+
+  pub part_fails : (fault : NotUnderstood) (ys : List Word) {X : Type 0} (f : X → List Word) → Closes (Err fault) part xs ys → Reads (Err fault) m f
+  part_fails fault ys f h = closed_not fault part (closes (drop (i + 1) parts)) xs ys xs m f h at_part
+
+pub parts_end : (parts : List (List ℕ)) (i : ℕ) (xs : List Word) (m : Option (List Word)) → length parts ≤ i → prefixed xs (all_words (closes (drop i parts))) ≡ m → m ≡ Some xs
+parts_end parts i xs m past left = sym left ∙ at_drop_all (λ ps. prefixed xs (all_words (closes ps))) parts i past ∙ no_words xs

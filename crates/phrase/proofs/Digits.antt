@@ -1,7 +1,11 @@
 -- One digit more.
-use Rattle.std.proofs.Common.{◌≡◌, ℕ, ◌+◌, ◌-◌, ◌*◌, ◌^◌, ◌<◌, ◌≤◌, true, false, ltb, List, [], ◌∷◌, length, Some, None, refl, ◌∙◌, arith}
+use Rattle.std.proofs.Common.{◌≡◌, ℕ, ◌+◌, ◌-◌, ◌*◌, ◌^◌, ◌<◌, Bool, true, false, ltb, cond, ◌&&◌, List, [], ◌∷◌, length, Some, None, Ok, Err, Option, Result, refl, ap, ◌∙◌, arith}
 use Rattle.std.specs.Char.{is_ascii_digit}
-use Rattle.std.proofs.lemmas.Bool.{lt-ltb, le-ltb, and_from, and_left, and_right, cond-true, cond-false}
+use Rattle.std.specs.Result.{result_ok}
+use Rattle.std.proofs.lemmas.Bool.{lt-ltb, and_from, cond-true, cond-false}
+use Rattle.phrase.specs.declared.number.BadDigits.{BadDigits}
+use Rattle.phrase.specs.declared.number.BadDigits.TheVariants.{NotADigit, TooLarge}
+use Rattle.phrase.specs.Digits.{then, digit_after, digits_after}
 use Rattle.phrase.specs.Numbers.{read_on, more_digits, run}
 
 -- at the end of the digits the number is read
@@ -14,15 +18,29 @@ pub read_digit : (n d : ℕ) (ds : List ℕ) → is_ascii_digit d ≡ true → n
 unfolding read_on
 read_digit n d ds h small = cond-true _ _ _ (and_from (is_ascii_digit d) (ltb (n * 10 + (d - 48)) (2 ^ 64)) h (lt-ltb _ _ small))
 
--- another byte is refused
-pub read_odd : (n d : ℕ) (ds : List ℕ) → is_ascii_digit d ≡ false → read_on n (d ∷ ds) ≡ None
-unfolding read_on
-read_odd n d ds h = cond-false _ _ _ (and_left (is_ascii_digit d) (ltb (n * 10 + (d - 48)) (2 ^ 64)) h)
+-- one step of `digits_after`
+pub digits_end : (n : ℕ) → digits_after n [] ≡ Ok n
+unfolding digits_after
+digits_end n = refl
 
--- and so is a number that does not fit
-pub read_large : (n d : ℕ) (ds : List ℕ) → 2 ^ 64 ≤ n * 10 + (d - 48) → read_on n (d ∷ ds) ≡ None
-unfolding read_on
-read_large n d ds h = cond-false _ _ _ (and_right (is_ascii_digit d) (ltb (n * 10 + (d - 48)) (2 ^ 64)) (le-ltb _ _ h))
+pub digits_more : (n d m : ℕ) (ds : List ℕ) → Ok m ≡ digit_after n d → digits_after m ds ≡ digits_after n (d ∷ ds)
+unfolding digits_after
+digits_more n d m ds h = ap (λ r. then r (λ k. digits_after k ds)) h
+
+pub digits_stop : (n d : ℕ) (ds : List ℕ) (e : BadDigits) → Err e ≡ digit_after n d → Err e ≡ digits_after n (d ∷ ds)
+unfolding digits_after
+digits_stop n d ds e h = ap (λ r. then r (λ k. digits_after k ds)) h
+
+without_reason : (digit fits : Bool) (m : ℕ) (f : ℕ → Result ℕ BadDigits) (o : Option ℕ) → result_ok (f m) ≡ o → result_ok (then (cond digit (cond fits (Ok m) (Err TooLarge)) (Err NotADigit)) f) ≡ cond (digit && fits) o None
+without_reason true true m f o h = h
+without_reason true false m f o h = refl
+without_reason false fits m f o h = refl
+
+-- without the reason why they are refused, digits are read on
+pub digits_read : (n : ℕ) (ds : List ℕ) → result_ok (digits_after n ds) ≡ read_on n ds
+unfolding digits_after read_on
+digits_read n [] = refl
+digits_read n (d ∷ ds) = without_reason (is_ascii_digit d) (ltb (n * 10 + (d - 48)) (2 ^ 64)) (n * 10 + (d - 48)) (λ k. digits_after k ds) (read_on (n * 10 + (d - 48)) ds) (digits_read (n * 10 + (d - 48)) ds)
 
 pub run_end : run [] ≡ 0
 unfolding run

@@ -1,3 +1,4 @@
+pub mod Comment
 pub mod Coordinates
 pub mod Cutting
 pub mod Digits

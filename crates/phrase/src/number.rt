@@ -1,5 +1,6 @@
 // Numbers as they are written: digits, fractions and decimals.
 ghost use Rattle.std.specs.Prelude.{◌≡◌, ◌^◌, ◌<◌, ◌≤◌, length};
+ghost use Rattle.phrase.specs.Digits.{digit_after, digits_after};
 ghost use Rattle.phrase.specs.Numbers.{more_digits, run, common, lowest, marked, number_word};
 
 use crate::word::Word;
@@ -9,25 +10,46 @@ const MOST_PLACES: usize = 25;
 
 const LARGEST_UNDER: u128 = 1048575;
 
-// The number that `digits` write after those of `start`, if they are digits, one at least, and it fits.
+// Why bytes are no number of 64 bits.
+#[derive(Clone, Copy, PartialEq, Eq, Debug)]
+pub enum BadDigits {
+    NotADigit,
+    TooLarge,
+}
+
+// One digit more.
+fn digit_after(n: u64, d: u8) -> Result<u64, BadDigits>
+    ensures { result ≡ digit_after n d }
+{
+    if !d.is_ascii_digit() {
+        return Err(BadDigits::NotADigit);
+    }
+    let next = n as u128 * 10 + (d - b'0') as u128;
+    if next > u64::MAX as u128 {
+        return Err(BadDigits::TooLarge);
+    }
+    Ok(next as u64)
+}
+
+// The number that `digits` write after those of `start`; where there are none, `start` itself.
+pub fn digits_after(start: u64, digits: &[u8]) -> Result<u64, BadDigits>
+    ensures { result ≡ digits_after start digits.now }
+{
+    let mut n = start;
+    for d in digits {
+        n = digit_after(n, *d)?;
+    }
+    Ok(n)
+}
+
+// The same, where there is one digit at least.
 fn more_digits(start: u64, digits: &[u8]) -> Option<u64>
     ensures { result ≡ more_digits start digits.now }
 {
     if digits.is_empty() {
         return None;
     }
-    let mut n = start;
-    for d in digits {
-        if !d.is_ascii_digit() {
-            return None;
-        }
-        let next = n as u128 * 10 + (*d - b'0') as u128;
-        if next > u64::MAX as u128 {
-            return None;
-        }
-        n = next as u64;
-    }
-    Some(n)
+    digits_after(start, digits).ok()
 }
 
 // How many bytes at the front are digits.

@@ -1,10 +1,11 @@
 // A line cut into its words. A comma separates words as a space does, so no word is ever empty.
-ghost use Rattle.std.specs.Prelude.{◌≡◌, ◌≤◌, [], length, take};
+ghost use Rattle.std.specs.Prelude.{◌≡◌, []};
 ghost use Rattle.std.specs.Str.{bytes_eq};
 ghost use Rattle.phrase.specs.Reading.{Reads, Closes};
-ghost use Rattle.phrase.specs.Words.{ends, plain, separates, cut, name, other_name, word, all_words, words};
+ghost use Rattle.phrase.specs.Words.{separates, cut, name, other_name, word, all_words, words};
 
 use crate::fault::NotUnderstood;
+use crate::line::without_comment;
 use crate::number::read_number;
 use crate::word::{Name, Word};
 use std::alloc::Global;
@@ -82,26 +83,6 @@ fn is_separator(b: u8) -> bool
     matches!(b, b' ' | b'\t' | b',')
 }
 
-// Nothing is read from a `#` on, nor a carriage return at the very end.
-fn ends_here(b: u8, after: usize) -> bool
-    ensures { result ≡ ends b after }
-{
-    b == b'#' || b == b'\r' && after == 0
-}
-
-// How many bytes come before the comment.
-fn plain_length(line: &[u8]) -> usize
-    ensures within { result ≤ length line.now }
-    ensures value { take result line.now ≡ plain line.now }
-{
-    for (i, b) in line.iter().enumerate() {
-        if ends_here(*b, line.len() - i - 1) {
-            return i;
-        }
-    }
-    line.len()
-}
-
 // Adds the word that ends here, if there is one.
 fn close(words: &mut Vec<Word>, text: &[u8]) -> Result<(), NotUnderstood>
     ensures { Closes result text.now words.old.items words.new.items }
@@ -109,10 +90,7 @@ fn close(words: &mut Vec<Word>, text: &[u8]) -> Result<(), NotUnderstood>
     if text.is_empty() {
         return Ok(());
     }
-    let Some(word) = read_word(text) else {
-        return Err(NotUnderstood::Unreadable);
-    };
-    words.push(word)?;
+    words.push(read_word(text).ok_or(NotUnderstood::Unreadable)?)?;
     Ok(())
 }
 
@@ -121,15 +99,9 @@ fn cut_words(heap: Global, text: &[u8]) -> Result<Vec<Word>, NotUnderstood>
     ensures { Reads result (all_words (cut [] text.now)) (λ v. v.items) }
 {
     let mut words = Vec::new(heap);
-    let mut start = 0;
-    for (i, b) in text.iter().enumerate() {
-        if !is_separator(*b) {
-            continue;
-        }
-        close(&mut words, &text[start..i])?;
-        start = i + 1;
+    for part in text.split(|b| is_separator(*b)) {
+        close(&mut words, part)?;
     }
-    close(&mut words, &text[start..])?;
     Ok(words)
 }
 
@@ -137,5 +109,5 @@ fn cut_words(heap: Global, text: &[u8]) -> Result<Vec<Word>, NotUnderstood>
 pub(crate) fn read_words(heap: Global, line: &[u8]) -> Result<Vec<Word>, NotUnderstood>
     ensures { Reads result (words line.now) (λ v. v.items) }
 {
-    cut_words(heap, &line[0..plain_length(line)])
+    cut_words(heap, without_comment(line))
 }

@@ -1,0 +1,38 @@
+// A line without its newline, and without its comment.
+ghost use Rattle.std.specs.Prelude.{◌≡◌, position, ◌==◌};
+ghost use Rattle.phrase.specs.Lines.{without_last, unended};
+ghost use Rattle.phrase.specs.Words.{plain};
+
+// Without its last byte, if that is `last`.
+fn without_last(line: &[u8], last: u8) -> &[u8]
+    ensures { result.now ≡ without_last last line.now }
+{
+    match line {
+        [front @ .., b] if *b == last => front,
+        _ => line,
+    }
+}
+
+// The line without the newline at its end.
+pub fn without_newline(line: &[u8]) -> &[u8]
+    ensures { result.now ≡ unended line.now }
+{
+    without_last(line, b'\n')
+}
+
+// Where the first `#` stands.
+fn comment_at(line: &[u8]) -> Option<usize>
+    ensures { result ≡ position (λ b. b == 35) line.now }
+{
+    line.iter().position(|b| *b == b'#')
+}
+
+// What stands before the comment: nothing is read from a `#` on, nor a carriage return at the very end.
+pub fn without_comment(line: &[u8]) -> &[u8]
+    ensures { result.now ≡ plain line.now }
+{
+    match comment_at(line) {
+        Some(n) => &line[..n],
+        None => without_last(line, b'\r'),
+    }
+}
