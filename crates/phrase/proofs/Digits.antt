@@ -1,22 +1,12 @@
 -- One digit more.
-use Rattle.std.proofs.Common.{◌≡◌, ℕ, ◌+◌, ◌-◌, ◌*◌, ◌^◌, ◌<◌, Bool, true, false, ltb, cond, ◌&&◌, List, [], ◌∷◌, length, Some, None, Ok, Err, Option, Result, refl, ap, ◌∙◌, arith}
+use Rattle.std.proofs.Common.{◌≡◌, ℕ, ◌+◌, ◌-◌, ◌*◌, ◌^◌, ◌<◌, Bool, true, false, ltb, cond, ◌&&◌, List, [], ◌∷◌, length, None, Ok, Err, Option, Result, refl, ap, ◌∙◌, arith}
 use Rattle.std.specs.Char.{is_ascii_digit}
 use Rattle.std.specs.Result.{result_ok}
-use Rattle.std.proofs.lemmas.Bool.{lt-ltb, and_from, cond-true, cond-false}
+use Rattle.std.proofs.lemmas.Bool.{cond-true, cond-false}
 use Rattle.phrase.specs.declared.number.BadDigits.{BadDigits}
 use Rattle.phrase.specs.declared.number.BadDigits.TheVariants.{NotADigit, TooLarge}
 use Rattle.phrase.specs.Digits.{then, digit_after, digits_after}
 use Rattle.phrase.specs.Numbers.{read_on, more_digits, run}
-
--- at the end of the digits the number is read
-pub read_end : (n : ℕ) → read_on n [] ≡ Some n
-unfolding read_on
-read_end n = refl
-
--- a digit goes on
-pub read_digit : (n d : ℕ) (ds : List ℕ) → is_ascii_digit d ≡ true → n * 10 + (d - 48) < 2 ^ 64 → read_on n (d ∷ ds) ≡ read_on (n * 10 + (d - 48)) ds
-unfolding read_on
-read_digit n d ds h small = cond-true _ _ _ (and_from (is_ascii_digit d) (ltb (n * 10 + (d - 48)) (2 ^ 64)) h (lt-ltb _ _ small))
 
 -- one step of `digits_after`
 pub digits_end : (n : ℕ) → digits_after n [] ≡ Ok n

@@ -1,6 +1,7 @@
 pub mod Comment
 pub mod Coordinates
 pub mod Cutting
+pub mod Decimals
 pub mod Digits
 pub mod Division
 pub mod Euclid
