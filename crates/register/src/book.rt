@@ -1,8 +1,8 @@
 // The grounds of a register, in the machine and as they were read.
-use dialogue::without_newline;
-use entries::{Entry, ReadError, fault_text, read_entry, refusal_text};
-use map::{End, Machine, Request};
-use std::alloc::{AllocError, Global};
+use entries::{Entry, Fault, ReadError, read_entry, refusal_text};
+use map::{AskError, Machine, Request};
+use std::alloc::{AllocError, AllocFailed, Global};
+use std::fmt;
 
 // A ground that the machine has taken.
 #[derive(Drop)]
@@ -21,6 +21,46 @@ pub struct Book {
     pub refused: u64,
 }
 
+// Why a line of the register was not taken.
+#[derive(Drop)]
+pub enum NotTaken {
+    NotUnderstood(Fault),
+    // A ground that the machine refused, and why.
+    Refused { number: u64, why: String },
+    OutOfMemory,
+}
+
+impl fmt::Display for NotTaken {
+    fn fmt<W: fmt::Write>(&self, f: &mut fmt::Formatter<W>) -> fmt::Result {
+        match self {
+            NotTaken::NotUnderstood(fault) => write!(f, "not understood: {fault}"),
+            NotTaken::Refused { number, why } => write!(f, "ground {number}: {why}"),
+            NotTaken::OutOfMemory => write!(f, "out of memory"),
+        }
+    }
+}
+
+impl From<ReadError> for NotTaken {
+    fn from(error: ReadError) -> Self {
+        match error {
+            ReadError::Wrong(fault) => NotTaken::NotUnderstood(fault),
+            ReadError::OutOfMemory => NotTaken::OutOfMemory,
+        }
+    }
+}
+
+impl From<AllocError> for NotTaken {
+    fn from(_error: AllocError) -> Self {
+        NotTaken::OutOfMemory
+    }
+}
+
+impl<T: Drop> From<AllocFailed<T>> for NotTaken {
+    fn from(_refused: AllocFailed<T>) -> Self {
+        NotTaken::OutOfMemory
+    }
+}
+
 impl Book {
     pub(crate) fn new(heap: Global) -> Result<Book, AllocError> {
         Ok(Book {
@@ -31,38 +71,30 @@ impl Book {
         })
     }
 
-    // Puts a ground; says why, if it is refused.
-    fn put(
-        &mut self,
-        heap: Global,
-        number: u64,
-        row: Vec<u64>,
-    ) -> Result<Option<String>, AllocError> {
+    fn put(&mut self, heap: Global, number: u64, row: Vec<u64>) -> Result<(), NotTaken> {
         let mut shown = Vec::new(heap);
         let request = Request::Put {
             number,
             row: row.as_slice(),
         };
-        let end = self.machine.ask(request, &mut shown)?;
-        if let End::Refused(refusal) = end {
-            let why = refusal_text(heap, refusal, number, row.as_slice())?;
-            return Ok(Some(format!(in heap; "ground {number}: {why}")?));
+        match self.machine.ask(request, &mut shown) {
+            Ok(()) => {}
+            Err(AskError::OutOfMemory) => return Err(NotTaken::OutOfMemory),
+            Err(AskError::Refused(refusal)) => {
+                let why = refusal_text(heap, refusal, number, row.as_slice())?;
+                return Err(NotTaken::Refused { number, why });
+            }
         }
         self.corners = self.corners.saturating_add(row.len() as u64 / 2);
         self.grounds.push(Ground { number, row })?;
-        Ok(None)
+        Ok(())
     }
 
-    // Takes a line of the register; says what is wrong with it, if anything is.
-    pub(crate) fn take(&mut self, heap: Global, line: &[u8]) -> Result<Option<String>, AllocError> {
-        match read_entry(heap, without_newline(line)) {
-            Ok(Entry::Nothing) => Ok(None),
-            Ok(Entry::Ground { number, row }) => self.put(heap, number, row),
-            Err(ReadError::Wrong(fault)) => {
-                let why = fault_text(fault);
-                Ok(Some(format!(in heap; "not understood: {why}")?))
-            }
-            Err(ReadError::OutOfMemory) => Err(AllocError),
+    // Takes a line of the register, without its newline.
+    pub(crate) fn take(&mut self, heap: Global, line: &[u8]) -> Result<(), NotTaken> {
+        match read_entry(heap, line)? {
+            Entry::Nothing => Ok(()),
+            Entry::Ground { number, row } => self.put(heap, number, row),
         }
     }
 }

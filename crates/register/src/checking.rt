@@ -1,20 +1,27 @@
 // What is told of a register as a whole: which grounds lie over each other, and how large all are together.
 use crate::book::Book;
 use dialogue::read_neighbours;
-use map::{End, Machine, Request};
-use phrase::{Neighbour, Way};
+use map::{AskError, Machine, Request};
+use phrase::Neighbour;
 use std::alloc::{AllocError, Global};
 use std::io;
+use terms::Way;
 
 // After so many grounds it is told how far it is.
 const GROUNDS_TOLD: usize = 100;
 
-fn all_that_lie<'a>(number: u64) -> Request<'a> {
-    Request::AllThatLie { number }
-}
-
-fn area<'a>(number: u64) -> Request<'a> {
-    Request::AreaOf { number }
+// What the machine shows at a request; nothing if it refuses.
+fn shown(
+    heap: Global,
+    machine: &mut Machine,
+    request: Request<'_>,
+) -> Result<Option<Vec<u64>>, AllocError> {
+    let mut shown = Vec::new(heap);
+    match machine.ask(request, &mut shown) {
+        Ok(()) => Ok(Some(shown)),
+        Err(AskError::Refused(_)) => Ok(None),
+        Err(AskError::OutOfMemory) => Err(AllocError),
+    }
 }
 
 // The grounds that lie on one, if the machine tells.
@@ -23,27 +30,23 @@ fn neighbours_of(
     machine: &mut Machine,
     number: u64,
 ) -> Result<Option<Vec<Neighbour>>, AllocError> {
-    let mut shown = Vec::new(heap);
-    match machine.ask(all_that_lie(number), &mut shown)? {
-        End::Done => read_neighbours(heap, shown.as_slice()),
-        End::Refused(_) => Ok(None),
-    }
+    let Some(shown) = shown(heap, machine, Request::AllThatLie { number })? else {
+        return Ok(None);
+    };
+    read_neighbours(heap, shown.as_slice())
 }
 
 // Twice the area of a ground, if the machine tells.
 fn area_of(heap: Global, machine: &mut Machine, number: u64) -> Result<Option<u64>, AllocError> {
-    let mut shown = Vec::new(heap);
-    match machine.ask(area(number), &mut shown)? {
-        End::Done => Ok(shown.as_slice().first().copied()),
-        End::Refused(_) => Ok(None),
-    }
+    let shown = shown(heap, machine, Request::AreaOf { number })?;
+    Ok(shown.and_then(|numbers| numbers.as_slice().first().copied()))
 }
 
 // Each pair is told once, of its lower number.
 fn tell_overlaps(rt: &HostRuntime, number: u64, rows: &[Neighbour]) -> io::Result<()> {
     for row in rows {
         let other = row.other;
-        if number < other && matches!(row.way, Way::Over) {
+        if number < other && row.way == Way::Over {
             println!(rt; "grounds {number} and {other} lie over each other")?;
         }
     }
@@ -53,13 +56,12 @@ fn tell_overlaps(rt: &HostRuntime, number: u64, rows: &[Neighbour]) -> io::Resul
 // Nothing is told as long as the machine does not know how grounds lie.
 fn check_overlaps(rt: &HostRuntime, book: &mut Book) -> anyhow::Result<()> {
     let count = book.grounds.len();
-    for (i, ground) in book.grounds.as_slice().iter().enumerate() {
+    for (done, ground) in (1usize..).zip(&book.grounds) {
         let Some(rows) = neighbours_of(rt.alloc(), &mut book.machine, ground.number)? else {
             return Ok(());
         };
         tell_overlaps(rt, ground.number, rows.as_slice())?;
-        if i % GROUNDS_TOLD == GROUNDS_TOLD - 1 {
-            let done = i.saturating_add(1);
+        if done % GROUNDS_TOLD == 0 {
             eprintln!(rt; "register: {done} of {count} grounds compared")?;
         }
     }
@@ -68,11 +70,11 @@ fn check_overlaps(rt: &HostRuntime, book: &mut Book) -> anyhow::Result<()> {
 
 fn check_areas(rt: &HostRuntime, book: &mut Book) -> anyhow::Result<()> {
     let mut twice: u128 = 0;
-    for ground in book.grounds.as_slice() {
+    for ground in &book.grounds {
         let Some(area) = area_of(rt.alloc(), &mut book.machine, ground.number)? else {
             return Ok(());
         };
-        twice = twice.saturating_add(area as u128);
+        twice = twice.saturating_add(u128::from(area));
     }
     println!(rt; "twice the area of all: {twice}")?;
     Ok(())

@@ -1,6 +1,7 @@
 // Reading the file of a register, line by line.
-use crate::book::Book;
+use crate::book::{Book, NotTaken};
 use crate::options::{Mode, Options};
+use std::alloc::AllocError;
 use std::fs::File;
 use std::io;
 use std::io::{BufRead, BufReader};
@@ -9,18 +10,18 @@ use std::io::{BufRead, BufReader};
 const LINES_TOLD: u64 = 5000;
 
 // Tells what is wrong with a line: on standard output, which under --wkt has the grounds alone.
-fn complain(rt: &HostRuntime, mode: Mode, line: u64, complaint: &str) -> io::Result<()> {
-    if let Mode::WellKnownText = mode {
-        return eprintln!(rt; "line {line}: {complaint}");
+fn complain(rt: &HostRuntime, mode: Mode, line: u64, why: &NotTaken) -> io::Result<()> {
+    if mode == Mode::WellKnownText {
+        return eprintln!(rt; "line {line}: {why}");
     }
-    println!(rt; "line {line}: {complaint}")
+    println!(rt; "line {line}: {why}")
 }
 
 fn sum_up(rt: &HostRuntime, mode: Mode, book: &Book) -> io::Result<()> {
     let grounds = book.grounds.len();
     let corners = book.corners;
     let refused = book.refused;
-    if let Mode::Check = mode {
+    if mode == Mode::Check {
         return println!(rt; "{grounds} grounds, {corners} corners, {refused} refused");
     }
     eprintln!(rt; "{grounds} grounds, {corners} corners, {refused} refused")
@@ -29,15 +30,15 @@ fn sum_up(rt: &HostRuntime, mode: Mode, book: &Book) -> io::Result<()> {
 // Takes every line of the file, tells what is wrong, and sums up.
 pub(crate) fn load(rt: &HostRuntime, options: &Options, book: &mut Book) -> anyhow::Result<()> {
     let heap = rt.alloc();
-    let mut input = BufReader::new(heap, File::open(rt, options.file.as_str())?)?;
-    for count in 1..u64::MAX {
-        let mut line = Vec::new(heap);
-        if input.read_until(b'\n', &mut line)? == 0 {
-            break;
-        }
-        if let Some(complaint) = book.take(heap, line.as_slice())? {
-            book.refused = book.refused.saturating_add(1);
-            complain(rt, options.mode, count, complaint.as_str())?;
+    let input = BufReader::new(heap, File::open(rt, options.file.as_str())?)?;
+    for (count, line) in (1u64..).zip(input.split(heap, b'\n')) {
+        match book.take(heap, line?.as_slice()) {
+            Ok(()) => {}
+            Err(NotTaken::OutOfMemory) => return Err(AllocError.into()),
+            Err(why) => {
+                book.refused = book.refused.saturating_add(1);
+                complain(rt, options.mode, count, &why)?;
+            }
         }
         if count % LINES_TOLD == 0 {
             eprintln!(rt; "register: {count} lines read")?;

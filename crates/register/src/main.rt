@@ -16,7 +16,7 @@ use std::process::ExitCode;
 
 // Every ground that was taken, a line each.
 fn write_grounds(rt: &HostRuntime, book: &Book) -> anyhow::Result<()> {
-    for ground in book.grounds.as_slice() {
+    for ground in &book.grounds {
         let text = write_wkt(rt.alloc(), ground.number, ground.row.as_slice())?;
         println!(rt; "{text}")?;
     }
@@ -45,12 +45,12 @@ fn run(rt: &HostRuntime, options: &Options) -> anyhow::Result<ExitCode> {
 
 fn main(rt: HostRuntime) -> anyhow::Result<ExitCode> {
     match read_options(&rt)? {
-        Asked::Work(options) => run(&rt, &options),
-        Asked::Help => {
+        Some(Asked::Work(options)) => run(&rt, &options),
+        Some(Asked::Help) => {
             print!(rt; "{USAGE}")?;
             Ok(ExitCode::SUCCESS)
         }
-        Asked::NotUnderstood => {
+        None => {
             eprint!(rt; "{USAGE}")?;
             Ok(ExitCode::FAILURE)
         }

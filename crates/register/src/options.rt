@@ -5,9 +5,10 @@ pub const USAGE: &str =
     "usage: register FILE [--check | --wkt]\n  FILE      a ground a line: 17: 120 400, 180 420, 150 470\n            or 17 POLYGON((120 400, 180 420, 150 470, 120 400)); what follows a # is passed over\n  --check   tells what is wrong in the file, and sums up\n  --wkt     writes the grounds as well-known text\n  --help    says this\nWithout --check or --wkt it reads the file, and then commands from standard input: help says which.\n";
 
 // What is done once the file is read.
-#[derive(Clone, Copy)]
+#[derive(Clone, Copy, Default, PartialEq, Eq)]
 pub enum Mode {
     // Takes commands from standard input.
+    #[default]
     Converse,
     Check,
     WellKnownText,
@@ -19,12 +20,11 @@ pub struct Options {
     pub mode: Mode,
 }
 
-// What the words behind the program's name say.
+// What the words behind the program's name ask for.
 #[derive(Drop)]
 pub enum Asked {
     Help,
     Work(Options),
-    NotUnderstood,
 }
 
 // One of these words.
@@ -46,20 +46,17 @@ fn word_of(word: &str) -> Word {
     }
 }
 
-// One file, and at most one thing to do with it.
-pub(crate) fn read_options(rt: &HostRuntime) -> anyhow::Result<Asked> {
-    let mut file = String::new(rt.alloc());
-    let mut mode = Mode::Converse;
+// One file, and at most one thing to do with it; nothing where the words are not understood.
+pub(crate) fn read_options(rt: &HostRuntime) -> anyhow::Result<Option<Asked>> {
+    let mut file = None;
+    let mut mode = Mode::default();
     for word in env::args(rt)?.skip(1) {
         match (word_of(word.as_str()), mode) {
-            (Word::Help, _) => return Ok(Asked::Help),
+            (Word::Help, _) => return Ok(Some(Asked::Help)),
             (Word::Mode(asked), Mode::Converse) => mode = asked,
-            (Word::File, _) if file.is_empty() => file = word,
-            _ => return Ok(Asked::NotUnderstood),
+            (Word::File, _) if file.is_none() => file = Some(word),
+            _ => return Ok(None),
         }
     }
-    if file.is_empty() {
-        return Ok(Asked::NotUnderstood);
-    }
-    Ok(Asked::Work(Options { file, mode }))
+    Ok(file.map(|file| Asked::Work(Options { file, mode })))
 }
