@@ -43,8 +43,10 @@ pub(crate) fn outside(turn: u32) -> Point {
 
 // A third of the way along an edge of a ground.
 pub(crate) fn shared(turn: u32) -> Point {
-    let [_, _, bx, by, cx, cy, _, _] =
-        entry((mixed(turn, 1) % 840) as u32).map_or([0; 8], |ground| ground.row);
+    let [_, _, bx, by, cx, cy, _, _] = entry((mixed(turn, 1) % 840) as u32).map_or(
+        [0; 8],
+        |ground| ground.row,
+    );
     Point {
         a: bx.wrapping_mul(2).wrapping_add(cx),
         b: by.wrapping_mul(2).wrapping_add(cy),

@@ -28,7 +28,11 @@ impl Outcome {
 
 impl fmt::Display for Outcome {
     fn fmt<W: fmt::Write>(&self, f: &mut fmt::Formatter<W>) -> fmt::Result {
-        write!(f, "{} answers looked at; {} are wrong", self.asked, self.wrong)
+        write!(
+            f,
+            "{} answers looked at; {} are wrong",
+            self.asked, self.wrong
+        )
     }
 }
 
