@@ -10,7 +10,6 @@ pub mod Joining
 pub mod Lines
 pub mod Lowest
 pub mod Marks
-pub mod Names
 pub mod ReadBack
 pub mod Rows
 pub mod Sofar

@@ -1,11 +1,8 @@
 -- Reading a row of whole numbers, word by word.
-use Rattle.std.proofs.Common.{◌≡◌, ℕ, ◌+◌, ◌<◌, ◌≤◌, List, [], ◌∷◌, ◌++◌, length, get_or, drop, Some, None, sym, refl, ap, ◌∙◌, arith}
-use Rattle.std.specs.List.{between}
-use Rattle.std.proofs.lemmas.List.{drop_more, drop_all, take_rest}
+use Rattle.std.proofs.Common.{◌≡◌, ℕ, ◌+◌, ◌<◌, ◌≤◌, List, [], ◌∷◌, ◌++◌, length, get_or, drop, Some, None, sym, refl, ap, ◌∙◌}
+use Rattle.std.proofs.lemmas.List.{drop_more, drop_all}
 use Rattle.phrase.specs.declared.word.Word.{Word}
 use Rattle.phrase.specs.declared.word.Word.TheVariants.{Named, Whole, Fraction}
-use Rattle.phrase.specs.declared.word.Name.TheVariants.{Put}
-use Rattle.phrase.specs.Grammar.{row_words, put_words}
 use Rattle.phrase.specs.Numbers.{bind}
 use Rattle.phrase.specs.Rows.{whole_of, wholes}
 use Rattle.phrase.proofs.Sofar.{prefixed, one_before, nothing_more}
@@ -38,8 +35,3 @@ module _ (ws : List Word) (i : ℕ) (d : Word) (xs : List ℕ) (within : i < len
 -- at the end the row is whole
 pub row_ends : (ws : List Word) (i : ℕ) (xs : List ℕ) → length ws ≤ i → prefixed xs (wholes (drop i ws)) ≡ Some xs
 row_ends ws i xs past = ap (prefixed xs) (ap wholes (drop_all i ws past) ∙ wholes_none) ∙ nothing_more xs
-
--- the number of the ground, and the words of its row, as the code cuts them
-pub put_first : (ws : List Word) (n : ℕ) → get_or ws 0 (Named Put) ≡ Whole n → put_words ws ≡ row_words n (between 1 (length ws) ws)
-put_first [] n e = let z : ◌≡◌ {A = ℕ} 0 1 = cc in absurd (omega arith)
-put_first (w ∷ ws) n e = ap (λ v. bind (whole_of v) (λ k. row_words k ws)) e ∙ rw (take_rest (w ∷ ws) 1)

@@ -2,7 +2,6 @@ pub mod Answers
 pub mod Commands
 pub mod Digits
 pub mod Grammar
-pub mod Kinds
 pub mod Lines
 pub mod Numbers
 pub mod Points

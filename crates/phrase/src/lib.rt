@@ -15,7 +15,6 @@ mod answer;
 mod command;
 mod fault;
 mod grammar;
-mod kind;
 mod laws;
 mod line;
 mod number;
