@@ -1,8 +1,5 @@
 -- Cutting a line into marks, byte by byte.
-use Rattle.std.proofs.Common.{◌≡◌, ℕ, ◌+◌, ◌<◌, ◌≤◌, true, false, List, [], ◌∷◌, ◌++◌, length, get_or, take, drop, Some, None, Ok, Err, Option, Result, sym, refl, ap, ◌∙◌, arith}
-use native.Mathlib.Nat.{sub_self}
-use Rattle.std.specs.List.{between}
-use Rattle.std.proofs.lemmas.List.Edits.{between_more}
+use Rattle.std.proofs.Common.{◌≡◌, ℕ, ◌+◌, ◌<◌, ◌≤◌, true, false, List, [], ◌∷◌, ◌++◌, length, get_or, drop, Some, None, Ok, Err, Option, Result, sym, refl, ap, ◌∙◌}
 use Rattle.std.proofs.lemmas.List.{drop_more, drop_all}
 use Rattle.std.proofs.lemmas.Bool.{cond-true, cond-false}
 use Rattle.entries.specs.declared.fault.Fault.{Fault}
@@ -42,38 +39,32 @@ closed_not (Wrong fault) [] rest xs ys all f h eq = absurd h
 closed_not (Wrong fault) (b ∷ w) rest xs ys all f h eq = sym eq ∙ ap (λ o. prefixed xs (then o (λ m. before m rest))) h
 closed_not OutOfMemory w rest xs ys all f h eq = tt
 
--- Below, w is the part of the text from `start` to `i`, a word that is being read; all is what the whole text is.
+-- Below, w is a word that is being read, and bs what comes behind it; all is what the whole text is.
 abbrev Left : List Mark → List ℕ → List ℕ → Result (List Mark) Fault → Type 0
 Left xs w bs all = prefixed xs (marks w bs) ≡ all
 
-no_part : (text : List ℕ) (i : ℕ) → between i i text ≡ []
-no_part text i = ap (λ n. take n (drop i text)) (sub_self i)
-
-module _ (text : List ℕ) (start i : ℕ) (xs : List Mark) (all : Result (List Mark) Fault) (within : i < length text) (left : Left xs (between start i text) (drop i text) all) where
+module _ (text w : List ℕ) (i : ℕ) (xs : List Mark) (all : Result (List Mark) Fault) (within : i < length text) (left : Left xs w (drop i text) all) where
   -- a separator closes the word
-  at_separator : true ≡ separates (get_or text i 0) → prefixed xs (closed (between start i text) (signed (sign (get_or text i 0)) (marks [] (drop (i + 1) text)))) ≡ all
-  at_separator e = ap (prefixed xs) (sym (ap (marks _) (drop_more text i 0 within) ∙ marks_separated _ _ _ (sym e))) ∙ left
+  at_separator : true ≡ separates (get_or text i 0) → prefixed xs (closed w (signed (sign (get_or text i 0)) (marks [] (drop (i + 1) text)))) ≡ all
+  at_separator e = ap (prefixed xs) (sym (ap (marks w) (drop_more text i 0 within) ∙ marks_separated _ _ _ (sym e))) ∙ left
 
-  pub word_ends : (ys zs : List Mark) → true ≡ separates (get_or text i 0) → Closes (Ok tt) (between start i text) xs ys → Signs (Ok tt) (sign (get_or text i 0)) ys zs → Left zs (between (i + 1) (i + 1) text) (drop (i + 1) text) all
+  pub word_ends : (ys zs : List Mark) → true ≡ separates (get_or text i 0) → Closes (Ok tt) w xs ys → Signs (Ok tt) (sign (get_or text i 0)) ys zs → Left zs [] (drop (i + 1) text) all
   word_ends ys zs e h g =
-      rw (no_part text (i + 1)) (sym (signed_ok (sign (get_or text i 0)) (marks [] (drop (i + 1) text)) ys zs g) ∙ sym (closed_ok (between start i text) _ xs ys h) ∙ at_separator e)
+      sym (signed_ok (sign (get_or text i 0)) (marks [] (drop (i + 1) text)) ys zs g) ∙ sym (closed_ok w _ xs ys h) ∙ at_separator e
 
-  pub word_fails : (e : ReadError) (ys : List Mark) {X : Type 0} (f : X → List Mark) → true ≡ separates (get_or text i 0) → Closes (Err e) (between start i text) xs ys → Reads (Err e) all f
-  word_fails e ys f s h = closed_not e (between start i text) (signed (sign (get_or text i 0)) (marks [] (drop (i + 1) text))) xs ys all f h (at_separator s)
+  pub word_fails : (e : ReadError) (ys : List Mark) {X : Type 0} (f : X → List Mark) → true ≡ separates (get_or text i 0) → Closes (Err e) w xs ys → Reads (Err e) all f
+  word_fails e ys f s h = closed_not e w (signed (sign (get_or text i 0)) (marks [] (drop (i + 1) text))) xs ys all f h (at_separator s)
 
   -- another byte belongs to the word
-  pub word_goes_on : start ≤ i → false ≡ separates (get_or text i 0) → Left xs (between start (i + 1) text) (drop (i + 1) text) all
-  word_goes_on h e =
-      rw (between_more text start i 0 h within) (ap (prefixed xs) (sym (ap (marks _) (drop_more text i 0 within) ∙ marks_on _ _ _ (sym e))) ∙ left)
+  pub word_goes_on : false ≡ separates (get_or text i 0) → Left xs (w ++ (get_or text i 0 ∷ [])) (drop (i + 1) text) all
+  word_goes_on e = ap (prefixed xs) (sym (ap (marks w) (drop_more text i 0 within) ∙ marks_on _ _ _ (sym e))) ∙ left
 
-module _ (text : List ℕ) (start i : ℕ) (xs : List Mark) (all : Result (List Mark) Fault) (past : length text ≤ i) (up : i ≤ length text) (left : Left xs (between start i text) (drop i text) all) where
-  at_end : prefixed xs (closed (between start (length text) text) (Ok [])) ≡ all
-  at_end =
-      let whole : i ≡ length text = omega arith in
-      ap (λ n. prefixed xs (closed (between start n text) (Ok []))) (sym whole) ∙ ap (prefixed xs) (sym (ap (marks _) (drop_all i text past) ∙ marks_end _)) ∙ left
+module _ (text w : List ℕ) (i : ℕ) (xs : List Mark) (all : Result (List Mark) Fault) (past : length text ≤ i) (left : Left xs w (drop i text) all) where
+  at_end : prefixed xs (closed w (Ok [])) ≡ all
+  at_end = ap (prefixed xs) (sym (ap (marks w) (drop_all i text past) ∙ marks_end _)) ∙ left
 
-  pub last_ends : (ys : List Mark) → Closes (Ok tt) (between start (length text) text) xs ys → all ≡ Ok ys
-  last_ends ys h = sym at_end ∙ closed_ok (between start (length text) text) _ xs ys h ∙ nothing_more ys
+  pub last_ends : (ys : List Mark) → Closes (Ok tt) w xs ys → all ≡ Ok ys
+  last_ends ys h = sym at_end ∙ closed_ok w _ xs ys h ∙ nothing_more ys
 
-  pub last_fails : (e : ReadError) (ys : List Mark) {X : Type 0} (f : X → List Mark) → Closes (Err e) (between start (length text) text) xs ys → Reads (Err e) all f
-  last_fails e ys f h = closed_not e (between start (length text) text) (Ok []) xs ys all f h at_end
+  pub last_fails : (e : ReadError) (ys : List Mark) {X : Type 0} (f : X → List Mark) → Closes (Err e) w xs ys → Reads (Err e) all f
+  last_fails e ys f h = closed_not e w (Ok []) xs ys all f h at_end

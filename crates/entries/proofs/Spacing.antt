@@ -1,27 +1,66 @@
--- Whether commas stand between corners, mark by mark.
-use Rattle.std.proofs.Common.{◌≡◌, ℕ, ◌+◌, ◌%◌, ◌<◌, ◌≤◌, Bool, true, false, ◌&&◌, eqb, List, [], ◌∷◌, length, get_or, drop, sym, refl, ap, ◌∙◌}
-use Rattle.std.proofs.lemmas.List.{drop_more, drop_all}
+-- Whether commas stand between corners: the parts that the commas cut have two marks each.
+use Rattle.std.proofs.Common.{◌≡◌, ℕ, suc, ◌+◌, ◌%◌, ◌<◌, Bool, true, false, not, ◌&&◌, eqb, List, [], ◌∷◌, length, sym, refl, ap, ◌∙◌, arith}
+use Rattle.std.specs.List.{slice_split, onto_first, list_all}
+use Rattle.std.proofs.lemmas.List.Splits.{slice_split-cons_yes, slice_split-cons_no, length-slice_split}
+use Rattle.std.proofs.lemmas.Bool.{ne_eqb}
 use Rattle.entries.specs.declared.mark.Mark.{Mark}
-use Rattle.entries.specs.Rings.{in_place, evenly}
+use Rattle.entries.specs.Rings.{is_comma, in_place, evenly}
 
-pub evenly_none : (k : ℕ) → evenly k [] ≡ eqb k 2
+abbrev pub two : List Mark → Bool
+two part = eqb (length part) 2
+
+abbrev parts : List Mark → List (List Mark)
+parts ms = slice_split is_comma ms
+
+-- each part has two marks, the first of them with the k that stand before it
+abbrev even_behind : ℕ → List (List Mark) → Bool
+even_behind k [] = false
+even_behind k (p ∷ ps) = eqb (k + length p) 2 && list_all two ps
+
+even_all : (ps : List (List Mark)) → 0 < length ps → list_all two ps ≡ even_behind 0 ps
+even_all [] some = absurd (omega arith)
+even_all (p ∷ ps) some = let same : length p ≡ 0 + length p = omega arith in ap (λ n. eqb n 2 && list_all two ps) same
+
+even_onto : (k : ℕ) (m : Mark) (ps : List (List Mark)) → 0 < length ps → even_behind k (onto_first m ps) ≡ even_behind (k + 1) ps
+even_onto k m [] some = absurd (omega arith)
+even_onto k m (p ∷ ps) some = let same : k + suc (length p) ≡ k + 1 + length p = omega arith in ap (λ n. eqb n 2 && list_all two ps) same
+
+too_many : (ps : List (List Mark)) → even_behind 3 ps ≡ false
+too_many [] = refl
+too_many (p ∷ ps) = ap (λ b. b && list_all two ps) (ne_eqb (3 + length p) 2 (λ e. omega arith))
+
+module _ (m : Mark) (ms : List Mark) where
+  some_parts : 0 < length (parts ms)
+  some_parts = omega (arith, length-slice_split is_comma ms)
+
+  evenly_cons : (k : ℕ) → evenly k (m ∷ ms) ≡ in_place k m && evenly ((k + 1) % 3) ms
+  unfolding evenly
+  evenly_cons k = refl
+
+  joined : (k : ℕ) → is_comma m ≡ false → even_behind (k + 1) (parts ms) ≡ even_behind k (parts (m ∷ ms))
+  joined k e = sym (ap (even_behind k) (slice_split-cons_no is_comma m ms e) ∙ even_onto k m (parts ms) some_parts)
+
+  cut_off : (k : ℕ) → is_comma m ≡ true → even_behind k ([] ∷ parts ms) ≡ even_behind k (parts (m ∷ ms))
+  cut_off k e = sym (ap (even_behind k) (slice_split-cons_yes is_comma m ms e))
+
+  behind_none : (b : Bool) → is_comma m ≡ b → evenly 1 ms ≡ even_behind 1 (parts ms) → evenly 0 (m ∷ ms) ≡ even_behind 0 (parts (m ∷ ms))
+  behind_none true e h = evenly_cons 0 ∙ ap (λ c. not c && evenly 1 ms) e ∙ cut_off 0 e
+  behind_none false e h = evenly_cons 0 ∙ ap (λ c. not c && evenly 1 ms) e ∙ h ∙ joined 0 e
+
+  behind_one : (b : Bool) → is_comma m ≡ b → evenly 2 ms ≡ even_behind 2 (parts ms) → evenly 1 (m ∷ ms) ≡ even_behind 1 (parts (m ∷ ms))
+  behind_one true e h = evenly_cons 1 ∙ ap (λ c. not c && evenly 2 ms) e ∙ cut_off 1 e
+  behind_one false e h = evenly_cons 1 ∙ ap (λ c. not c && evenly 2 ms) e ∙ h ∙ joined 1 e
+
+  behind_two : (b : Bool) → is_comma m ≡ b → evenly 0 ms ≡ even_behind 0 (parts ms) → evenly 2 (m ∷ ms) ≡ even_behind 2 (parts (m ∷ ms))
+  behind_two true e h = evenly_cons 2 ∙ ap (λ c. c && evenly 0 ms) e ∙ h ∙ sym (even_all (parts ms) some_parts) ∙ cut_off 2 e
+  behind_two false e h = evenly_cons 2 ∙ ap (λ c. c && evenly 0 ms) e ∙ sym (too_many (parts ms)) ∙ joined 2 e
+
+all_behind : (ms : List Mark) → (evenly 0 ms ≡ even_behind 0 (parts ms)) × (evenly 1 ms ≡ even_behind 1 (parts ms)) × (evenly 2 ms ≡ even_behind 2 (parts ms))
 unfolding evenly
-evenly_none k = refl
+all_behind [] = (refl, refl, refl)
+all_behind (m ∷ ms) =
+    let h = all_behind ms in
+    (behind_none m ms (is_comma m) refl h.1, behind_one m ms (is_comma m) refl h.2, behind_two m ms (is_comma m) refl h.0)
 
-pub evenly_cons : (k : ℕ) (m : Mark) (ms : List Mark) → evenly k (m ∷ ms) ≡ in_place k m && evenly ((k + 1) % 3) ms
-unfolding evenly
-evenly_cons k m ms = refl
-
-module _ (ms : List Mark) (i k : ℕ) (d : Mark) (all : Bool) (left : evenly k (drop i ms) ≡ all) where
-  at_mark : i < length ms → in_place k (get_or ms i d) && evenly ((k + 1) % 3) (drop (i + 1) ms) ≡ all
-  at_mark within = sym (ap (evenly k) (drop_more ms i d within) ∙ evenly_cons k (get_or ms i d) (drop (i + 1) ms)) ∙ left
-
-  pub mark_fails : i < length ms → false ≡ in_place k (get_or ms i d) → false ≡ all
-  mark_fails within e = ap (λ b. b && evenly ((k + 1) % 3) (drop (i + 1) ms)) e ∙ at_mark within
-
-  pub mark_fits : i < length ms → true ≡ in_place k (get_or ms i d) → evenly ((k + 1) % 3) (drop (i + 1) ms) ≡ all
-  mark_fits within e = ap (λ b. b && evenly ((k + 1) % 3) (drop (i + 1) ms)) e ∙ at_mark within
-
--- at the end
-pub marks_all : (ms : List Mark) (i k : ℕ) (all : Bool) → evenly k (drop i ms) ≡ all → length ms ≤ i → eqb k 2 ≡ all
-marks_all ms i k all left past = sym (ap (evenly k) (drop_all i ms past) ∙ evenly_none k) ∙ left
+pub even_parts : (ms : List Mark) → list_all two (slice_split is_comma ms) ≡ evenly 0 ms
+even_parts ms = let some : 0 < length (parts ms) = omega (arith, length-slice_split is_comma ms) in even_all (parts ms) some ∙ sym (all_behind ms).0

@@ -1,7 +1,5 @@
 -- What is wrong, in words.
-use Rattle.std.specs.Prelude.{ℕ, List, ◌++◌, codes, decimal}
-use Rattle.ground.specs.declared.refusal.NoGround.{NoGround}
-use Rattle.ground.specs.declared.refusal.NoGround.TheVariants.{Odd, TooFew, TooMany, OutOfRange, EdgesMeet, Clockwise}
+use Rattle.std.specs.Prelude.{ℕ, List, codes}
 use Rattle.entries.specs.declared.fault.Fault.{Fault}
 use Rattle.entries.specs.declared.fault.Fault.TheVariants.{NoNumber, TooLarge, NotANumber, Brackets, OddCount, NotAPolygon, NotClosed}
 
@@ -14,12 +12,3 @@ fault_words Brackets = codes "more than one ring, or stray brackets"
 fault_words OddCount = codes "a number is left over"
 fault_words NotAPolygon = codes "no polygon of corners with commas between them, in two pairs of brackets"
 fault_words NotClosed = codes "the last corner of the ring is not the first again"
-
--- why a row is no ground
-abbrev pub reason_words : NoGround → List ℕ
-reason_words Odd = codes "a number is left over"
-reason_words TooFew = codes "fewer than 3 corners"
-reason_words TooMany = codes "more than 256 corners"
-reason_words (OutOfRange corner) = codes "corner " ++ (decimal corner ++ codes " is out of range (numbers below 1048576)")
-reason_words (EdgesMeet first second) = codes "edges " ++ (decimal first ++ (codes " and " ++ (decimal second ++ codes " meet")))
-reason_words Clockwise = codes "gone round to the right, or without area"

@@ -1,8 +1,8 @@
 -- Why a ground was refused, in words.
 use Rattle.std.specs.Prelude.{◌≡◌, ℕ, true, cond, List, ◌++◌, Some, None, codes, decimal, Option, ◌==◌}
+use Rattle.ground.specs.Reasons.{reason_words}
 use Rattle.ground.specs.Refusals.{is_ground, Wrong}
 use Rattle.ground.specs.declared.refusal.NoGround.{NoGround}
-use Rattle.entries.specs.Reasons.{reason_words}
 
 abbrev pub number_words : ℕ → List ℕ
 number_words k = codes "refused " ++ decimal k

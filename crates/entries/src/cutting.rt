@@ -52,12 +52,8 @@ fn plain_length(line: &[u8]) -> usize
 fn close(marks: &mut Vec<Mark>, text: &[u8]) -> Result<(), ReadError>
     ensures { Closes result text.now marks.old.items marks.new.items }
 {
-    if text.is_empty() {
-        return Ok(());
-    }
-    match read_word(text) {
-        Ok(mark) => marks.push(mark)?,
-        Err(fault) => return Err(ReadError::Wrong(fault)),
+    if !text.is_empty() {
+        marks.push(read_word(text)?)?;
     }
     Ok(())
 }
@@ -77,16 +73,17 @@ fn cut_marks(heap: Global, text: &[u8]) -> Result<Vec<Mark>, ReadError>
     ensures { Reads result (marks [] text.now) (λ v. v.items) }
 {
     let mut marks = Vec::new(heap);
-    let mut start = 0;
-    for (i, b) in text.iter().enumerate() {
+    let mut word = Vec::new(heap);
+    for b in text {
         if !separates(*b) {
+            word.push(*b)?;
             continue;
         }
-        close(&mut marks, &text[start..i])?;
+        close(&mut marks, word.as_slice())?;
         add_sign(&mut marks, *b)?;
-        start = i + 1;
+        word.clear();
     }
-    close(&mut marks, &text[start..])?;
+    close(&mut marks, word.as_slice())?;
     Ok(marks)
 }
 

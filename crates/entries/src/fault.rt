@@ -1,8 +1,6 @@
 // Why a line of a register is no entry.
-ghost use Rattle.std.specs.Prelude.{◌≡◌};
-ghost use Rattle.entries.specs.declared.fault.ReadError.TheVariants.{OutOfMemory};
-
 use std::alloc::{AllocError, AllocFailed};
+use std::fmt;
 
 // What is wrong with a line.
 #[derive(Clone, Copy, PartialEq, Eq, Debug)]
@@ -23,14 +21,50 @@ pub enum Fault {
     NotClosed,
 }
 
+impl fmt::Display for Fault {
+    ghost use Rattle.std.specs.Prelude.{Some};
+    ghost use Rattle.entries.specs.Reasons.{fault_words};
+
+    ghost output = { λ fault. Some (fault_words fault) };
+
+    fn fmt<W: fmt::Write>(&self, f: &mut fmt::Formatter<W>) -> fmt::Result {
+        f.write_str(match self {
+            Fault::NoNumber => "no number of a ground at its beginning",
+            Fault::TooLarge => "a number of 2^64 or more",
+            Fault::NotANumber => "a word where a number should stand",
+            Fault::Brackets => "more than one ring, or stray brackets",
+            Fault::OddCount => "a number is left over",
+            Fault::NotAPolygon =>
+                "no polygon of corners with commas between them, in two pairs of brackets",
+            Fault::NotClosed => "the last corner of the ring is not the first again",
+        })
+    }
+}
+
+impl std::error::Error for Fault {}
+
 // Why no entry was read.
-#[derive(Clone, Copy)]
+#[derive(Clone, Copy, PartialEq, Eq, Debug)]
 pub enum ReadError {
     Wrong(Fault),
     OutOfMemory,
 }
 
+impl From<Fault> for ReadError {
+    ghost use Rattle.std.specs.Prelude.{◌≡◌};
+    ghost use Rattle.entries.specs.declared.fault.ReadError.TheVariants.{Wrong};
+
+    ghost from_gives = { λ fault r. r ≡ Wrong fault };
+
+    fn from(fault: Fault) -> Self {
+        ReadError::Wrong(fault)
+    }
+}
+
 impl From<AllocError> for ReadError {
+    ghost use Rattle.std.specs.Prelude.{◌≡◌};
+    ghost use Rattle.entries.specs.declared.fault.ReadError.TheVariants.{OutOfMemory};
+
     ghost from_gives = { λ _ r. r ≡ OutOfMemory };
 
     fn from(_error: AllocError) -> Self {
@@ -39,6 +73,9 @@ impl From<AllocError> for ReadError {
 }
 
 impl<T: Drop> From<AllocFailed<T>> for ReadError {
+    ghost use Rattle.std.specs.Prelude.{◌≡◌};
+    ghost use Rattle.entries.specs.declared.fault.ReadError.TheVariants.{OutOfMemory};
+
     ghost from_gives = { λ _ r. r ≡ OutOfMemory };
 
     fn from(_refused: AllocFailed<T>) -> Self {

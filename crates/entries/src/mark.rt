@@ -1,5 +1,5 @@
 // The marks of a line: numbers, the word `polygon`, and signs.
-#[derive(Clone, Copy)]
+#[derive(Clone, Copy, PartialEq, Eq, Debug)]
 pub enum Mark {
     Number(u64),
     Polygon,

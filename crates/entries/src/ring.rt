@@ -1,6 +1,7 @@
 // The ring of a polygon in well-known text: `((120 400, 180 420, 150 470, 120 400))`.
-ghost use Rattle.std.specs.Prelude.{◌≡◌};
-ghost use Rattle.entries.specs.Rings.{brackets, bracketed, is_comma, in_place, evenly, closes, ring_row};
+ghost use Rattle.std.specs.Prelude.{◌≡◌, ◌-◌, true, false, length, MatchOption};
+ghost use Rattle.std.specs.List.{between};
+ghost use Rattle.entries.specs.Rings.{bracketed, evenly, closes, ring_row};
 ghost use Rattle.entries.specs.Reading.{Reads};
 
 use crate::fault::{Fault, ReadError};
@@ -8,54 +9,29 @@ use crate::mark::Mark;
 use crate::row::read_numbers;
 use std::alloc::Global;
 
-fn are_brackets(first: Mark, second: Mark, next_to_last: Mark, last: Mark) -> bool
-    ensures { result ≡ brackets first second next_to_last last }
+// The marks between two brackets that open and two that close, if they stand so.
+fn in_brackets(marks: &[Mark]) -> Option<&[Mark]>
+    ensures { MatchOption result (bracketed marks.now ≡ false) (λ inner. (bracketed marks.now ≡ true) × (inner.now ≡ between 2 (length marks.now - 2) marks.now)) }
 {
-    matches!(
-        (first, second, next_to_last, last),
-        (Mark::Open, Mark::Open, Mark::Close, Mark::Close)
-    )
-}
-
-// Whether the marks begin with two brackets that open, and end with two that close.
-fn is_bracketed(marks: &[Mark]) -> bool
-    ensures { result ≡ bracketed marks.now }
-{
-    let n = marks.len();
-    if n < 4 {
-        return false;
+    match marks {
+        [
+            Mark::Open,
+            Mark::Open,
+            inner @ ..,
+            Mark::Close,
+            Mark::Close,
+        ] => Some(inner),
+        _ => None,
     }
-    are_brackets(marks[0], marks[1], marks[n - 2], marks[n - 1])
 }
 
-fn is_comma(mark: Mark) -> bool
-    ensures { result ≡ is_comma mark }
-{
-    matches!(mark, Mark::Comma)
-}
-
-// Behind two numbers stands a comma, and nowhere else.
-fn in_place(since_comma: u64, mark: Mark) -> bool
-    ensures { result ≡ in_place since_comma mark }
-{
-    if since_comma == 2 {
-        return is_comma(mark);
-    }
-    !is_comma(mark)
-}
-
-// Whether the commas stand between corners, and the last corner has two numbers.
+// Whether the commas stand between corners: two marks before each, and two behind the last.
 fn is_even(marks: &[Mark]) -> bool
     ensures { result ≡ evenly 0 marks.now }
 {
-    let mut since_comma = 0u64;
-    for mark in marks {
-        if !in_place(since_comma, *mark) {
-            return false;
-        }
-        since_comma = (since_comma + 1) % 3;
-    }
-    since_comma == 2
+    marks
+        .split(|mark| *mark == Mark::Comma)
+        .all(|corner| corner.len() == 2)
 }
 
 // Whether there are two corners or more, the last of them the first again.
@@ -72,10 +48,7 @@ fn is_closed(row: &[u64]) -> bool
 pub(crate) fn read_ring(heap: Global, marks: &[Mark]) -> Result<Vec<u64>, ReadError>
     ensures { Reads result (ring_row marks.now) (λ v. v.items) }
 {
-    if !is_bracketed(marks) {
-        return Err(ReadError::Wrong(Fault::NotAPolygon));
-    }
-    let inner = &marks[2..marks.len() - 2];
+    let inner = in_brackets(marks).ok_or(Fault::NotAPolygon)?;
     let mut row = read_numbers(heap, inner)?;
     if !is_even(inner) {
         return Err(ReadError::Wrong(Fault::NotAPolygon));

@@ -1,5 +1,5 @@
 // A ground as well-known text, under its number.
-ghost use Rattle.std.specs.Prelude.{◌≡◌, ◌++◌, take, IfOk, string_bytes};
+ghost use Rattle.std.specs.Prelude.{◌≡◌, ℕ, ◌++◌, take, decimal, IfOk, string_bytes};
 ghost use Rattle.entries.specs.Wkt.{coordinate, coordinates, wkt};
 
 use std::alloc::{AllocError, Global};
@@ -9,22 +9,19 @@ fn closed_ring(heap: Global, row: &[u64]) -> Result<Vec<u64>, AllocError>
     ensures { IfOk result (λ v. v.items ≡ row.now ++ take 2 row.now) }
 {
     let mut ring = Vec::from_slice(heap, row)?;
-    let first = if row.len() < 2 { row } else { &row[0..2] };
-    ring.extend_from_slice(first)?;
+    ring.extend_from_slice(&row[..row.len().min(2)])?;
     Ok(ring)
 }
 
-// Number `i` of a ring, with what stands before it.
-fn coordinate_text(heap: Global, i: usize, x: u64) -> Result<String, AllocError>
-    ensures { IfOk result (λ s. string_bytes s ≡ coordinate i x) }
+// What stands before number `i` of a ring.
+fn gap(i: usize) -> &'static str
+    ensures { (x : ℕ) → result.now ++ decimal x ≡ coordinate i x }
 {
-    if i == 0 {
-        return format!(in heap; "{x}");
+    match i {
+        0 => "",
+        _ if i % 2 == 0 => ", ",
+        _ => " ",
     }
-    if i % 2 == 0 {
-        return format!(in heap; ", {x}");
-    }
-    format!(in heap; " {x}")
 }
 
 fn ring_text(heap: Global, ring: &[u64]) -> Result<String, AllocError>
@@ -32,8 +29,8 @@ fn ring_text(heap: Global, ring: &[u64]) -> Result<String, AllocError>
 {
     let mut out = String::new(heap);
     for (i, x) in ring.iter().enumerate() {
-        let text = coordinate_text(heap, i, *x)?;
-        out.push_str(text.as_str())?;
+        let gap = gap(i);
+        write!(out, "{gap}{x}")?;
     }
     Ok(out)
 }
@@ -44,6 +41,5 @@ pub fn write_wkt(heap: Global, number: u64, row: &[u64]) -> Result<String, Alloc
 {
     let ring = closed_ring(heap, row)?;
     let corners = ring_text(heap, ring.as_slice())?;
-    let text = corners.as_str();
-    format!(in heap; "{number} POLYGON(({text}))")
+    format!(in heap; "{number} POLYGON(({corners}))")
 }

@@ -1,6 +1,6 @@
 // A word as a mark: digits, or `polygon`.
 ghost use Rattle.std.specs.Prelude.{◌≡◌};
-ghost use Rattle.entries.specs.Words.{digits, is_polygon, word};
+ghost use Rattle.entries.specs.Words.{digits, word};
 
 use crate::fault::Fault;
 use crate::mark::Mark;
@@ -23,21 +23,11 @@ fn read_digits(text: &[u8]) -> Result<u64, Fault>
     Ok(n)
 }
 
-// Whether this is the word `polygon`, in capitals or not.
-fn is_polygon(text: &[u8]) -> bool
-    ensures { result ≡ is_polygon text.now }
-{
-    text.eq_ignore_ascii_case(b"polygon")
-}
-
 pub(crate) fn read_word(text: &[u8]) -> Result<Mark, Fault>
     ensures { result ≡ word text.now }
 {
-    if is_polygon(text) {
+    if text.eq_ignore_ascii_case(b"polygon") {
         return Ok(Mark::Polygon);
     }
-    match read_digits(text) {
-        Ok(n) => Ok(Mark::Number(n)),
-        Err(fault) => Err(fault),
-    }
+    read_digits(text).map(Mark::Number)
 }

@@ -1,15 +1,14 @@
-use Rattle.std.proofs.Common.{arith}
-use Rattle.entries.proofs.Spacing.{mark_fails, mark_fits, marks_all}
+use Rattle.std.proofs.Common.{◌∙◌, rules}
+use Rattle.std.proofs.lemmas.Iterator.Search.{all_from_yields_List}
+use Rattle.std.proofs.lemmas.Iterator.Splits.{YieldsList-from_slice_split}
+use borrow.Author.Tests.{tests}
+use Rattle.entries.specs.Rings.{is_comma}
+use Rattle.entries.proofs.Spacing.{two, even_parts}
 use Rattle.entries.proofs.ring.is_even.Goals as goal
 
-pub returns-then-not-in_place : goal.returns-then-not-in_place
-returns-then-not-in_place c = mark_fails c.args.marks.now _ _ _ _ c.loop-mark.invariant.1 c.loop-mark-test.true c.if-not-in_place.ensures
-
-pub loop-mark-preserved : goal.loop-mark-preserved
-loop-mark-preserved c = (
-  omega arith,
-  mark_fits c.args.marks.now _ _ _ _ c.loop-mark.invariant.1 c.loop-mark-test.true c.if-not-in_place.ensures,
-)
-
 pub returns : goal.returns
-returns c = marks_all c.args.marks.now c.loop-mark.mark-index _ _ c.loop-mark.invariant.1 c.loop-mark-test.false
+returns c =
+    all_from_yields_List two _ _ _ c.all.ensures.ran
+    (YieldsList-from_slice_split _ is_comma c.args.marks.now c.split.ensures.rest c.split.ensures.done c.split.ensures.closure (λ x b q k. search (rules, tests)))
+    (λ x b q k. search (rules, tests))
+    ∙ even_parts c.args.marks.now
