@@ -1,26 +1,31 @@
--- One digit more.
-use Rattle.std.proofs.Common.{◌≡◌, ℕ, ◌+◌, ◌-◌, ◌*◌, ◌^◌, ◌<◌, ◌≤◌, true, false, List, [], ◌∷◌, Ok, Err, refl, ◌∙◌}
+-- The digits of a word, as the reader of digits has them.
+use Rattle.std.proofs.Common.{◌≡◌, ℕ, ◌+◌, ◌-◌, ◌*◌, ◌^◌, Bool, true, false, cond, ltb, List, [], ◌∷◌, Some, Ok, Err, Result, refl}
 use Rattle.std.specs.Char.{is_ascii_digit}
-use Rattle.std.proofs.lemmas.Bool.{lt-ltb, le-ltb, cond-true, cond-false}
+use Rattle.std.specs.Result.{result_ok}
+use Rattle.phrase.specs.declared.number.BadDigits.{BadDigits}
+use Rattle.phrase.specs.declared.number.BadDigits.TheVariants as bad
+use Rattle.phrase.specs.Digits.{digits_after}
+use Rattle.phrase.specs.Digits as read
+use Rattle.entries.specs.declared.fault.Fault.{Fault}
 use Rattle.entries.specs.declared.fault.Fault.TheVariants.{TooLarge, NotANumber}
+use Rattle.entries.specs.Digits.{digits_fault}
 use Rattle.entries.specs.Words.{digits}
 
--- at the end of the digits the number is read
-pub digits_end : (n : ℕ) → digits n [] ≡ Ok n
-unfolding digits
-digits_end n = refl
+-- a number, or what is wrong with the word
+abbrev pub faulted : Result ℕ BadDigits → Result ℕ Fault
+faulted (Ok n) = Ok n
+faulted (Err e) = Err (digits_fault e)
 
--- a digit goes on
-pub digits_on : (n d : ℕ) (ds : List ℕ) → is_ascii_digit d ≡ true → n * 10 + (d - 48) < 2 ^ 64 → digits n (d ∷ ds) ≡ digits (n * 10 + (d - 48)) ds
-unfolding digits
-digits_on n d ds h small = cond-true _ _ _ h ∙ cond-true _ _ _ (lt-ltb _ _ small)
+one_more : (digit fits : Bool) (m : ℕ) (f : ℕ → Result ℕ BadDigits) (o : Result ℕ Fault) → faulted (f m) ≡ o → faulted (read.then (cond digit (cond fits (Ok m) (Err bad.TooLarge)) (Err bad.NotADigit)) f) ≡ cond digit (cond fits o (Err TooLarge)) (Err NotANumber)
+one_more true true m f o h = h
+one_more true false m f o h = refl
+one_more false fits m f o h = refl
 
--- another byte is refused
-pub digits_odd : (n d : ℕ) (ds : List ℕ) → is_ascii_digit d ≡ false → digits n (d ∷ ds) ≡ Err NotANumber
-unfolding digits
-digits_odd n d ds h = cond-false _ _ _ h
+pub same_digits : (n : ℕ) (ds : List ℕ) → faulted (digits_after n ds) ≡ digits n ds
+unfolding digits_after digits
+same_digits n [] = refl
+same_digits n (d ∷ ds) = one_more (is_ascii_digit d) (ltb (n * 10 + (d - 48)) (2 ^ 64)) (n * 10 + (d - 48)) (λ k. digits_after k ds) _ (same_digits (n * 10 + (d - 48)) ds)
 
--- and so is a number that does not fit
-pub digits_large : (n d : ℕ) (ds : List ℕ) → is_ascii_digit d ≡ true → 2 ^ 64 ≤ n * 10 + (d - 48) → digits n (d ∷ ds) ≡ Err TooLarge
-unfolding digits
-digits_large n d ds h large = cond-true _ _ _ h ∙ cond-false _ _ _ (le-ltb _ _ large)
+pub faulted_number : (r : Result ℕ BadDigits) (n : ℕ) → result_ok r ≡ Some n → faulted r ≡ Ok n
+faulted_number (Ok m) n h = cc
+faulted_number (Err e) n h = cc

@@ -1,42 +1,19 @@
 -- A number that was written is read back as a mark.
-use Rattle.std.proofs.Common.{◌≡◌, ℕ, ◌+◌, ◌-◌, ◌*◌, ◌^◌, ◌<◌, ◌≤◌, true, false, cond, ltb, leb, List, [], ◌∷◌, ◌++◌, length, Ok, decimal, Result, sym, refl, ap, ◌∙◌, append_assoc, append-nil, arith, rules}
+use Rattle.std.proofs.Common.{◌≡◌, ℕ, ◌+◌, ◌-◌, ◌*◌, ◌^◌, ◌<◌, ◌≤◌, true, false, cond, ltb, leb, List, [], ◌∷◌, ◌++◌, length, Some, Ok, decimal, Result, sym, refl, ap, ◌∙◌, append_assoc, append-nil, arith, rules}
 use Rattle.std.specs.Char.{is_ascii_digit}
 use Rattle.std.specs.Str.{all_ascii_digits}
 use Rattle.std.proofs.lemmas.Fmt.{decimal_nonempty, digits_decimal, digits_value-decimal}
-use Rattle.std.proofs.lemmas.Str.Parse.{IsNumeralModel, numerals_by_fold}
 use Rattle.std.proofs.lemmas.Bool.{and_parts, cond-true, cond-false, ne_eqb, lt-ltb, leb-true}
-use Rattle.phrase.specs.Words.{ends, plain}
+use Rattle.phrase.specs.Words.{plain}
+use Rattle.phrase.proofs.Digits.{digits_read as result_of_digits}
+use Rattle.phrase.proofs.Spelling.{folded, own, digits_read, digit_low, digit_high, plain_digits}
 use Rattle.entries.specs.declared.fault.Fault.{Fault}
 use Rattle.entries.specs.declared.mark.Mark.{Mark}
 use Rattle.entries.specs.declared.mark.Mark.TheVariants.{Number}
 use Rattle.entries.specs.Marks.{separates, before, closed, marks}
-use Rattle.entries.specs.Words.{then, digits, is_polygon, word}
+use Rattle.entries.specs.Words.{then, is_polygon, word}
 use Rattle.entries.proofs.Cuts.{marks_on}
-use Rattle.entries.proofs.Digits.{digits_end, digits_on}
-
--- the number that digits write after those of n
-abbrev folded : ℕ → List ℕ → ℕ
-folded n [] = n
-folded n (d ∷ ds) = folded (n * 10 + (d - 48)) ds
-
-own : IsNumeralModel (λ ds. all_ascii_digits ds ≡ true) (folded 0)
-own = numerals_by_fold _ (search rules) folded (search rules)
-
-folded_grows : (n : ℕ) (ds : List ℕ) → n ≤ folded n ds
-folded_grows n [] = omega arith
-folded_grows n (d ∷ ds) = omega (arith, folded_grows (n * 10 + (d - 48)) ds)
-
-digits_read : (n : ℕ) (ds : List ℕ) → all_ascii_digits ds ≡ true → folded n ds < 2 ^ 64 → digits n ds ≡ Ok (folded n ds)
-digits_read n [] h small = digits_end n
-digits_read n (d ∷ ds) h small =
-    let parts = and_parts (is_ascii_digit d) (all_ascii_digits ds) h in
-    digits_on n d ds parts.0 (omega (arith, folded_grows (n * 10 + (d - 48)) ds)) ∙ digits_read (n * 10 + (d - 48)) ds parts.1 small
-
-digit_low : (d : ℕ) → is_ascii_digit d ≡ true → 48 ≤ d
-digit_low d h = leb-true 48 d (and_parts (leb 48 d) (leb d 57) h).0
-
-digit_high : (d : ℕ) → is_ascii_digit d ≡ true → d ≤ 57
-digit_high d h = leb-true d 57 (and_parts (leb 48 d) (leb d 57) h).1
+use Rattle.entries.proofs.Digits.{same_digits, faulted_number}
 
 -- what begins with a digit is not the word `polygon`
 not_polygon : (d : ℕ) (ds : List ℕ) → d ≤ 57 → is_polygon (d ∷ ds) ≡ false
@@ -45,27 +22,16 @@ not_polygon d ds h = rw (cond-true (ltb d 65) d (cond (ltb d 91) (d + 32) d) (lt
 word_read : (ds : List ℕ) (n : ℕ) → all_ascii_digits ds ≡ true → 0 < length ds → folded 0 ds ≡ n → n < 2 ^ 64 → word ds ≡ Ok (Number n)
 word_read [] n h some e small = absurd (omega arith)
 word_read (d ∷ ds) n h some e small =
+    let number = faulted_number _ _ (result_of_digits 0 (d ∷ ds) ∙ digits_read 0 (d ∷ ds) h (omega arith) ∙ ap Some e) in
     cond-false _ _ _ (not_polygon d ds (digit_high d (and_parts (is_ascii_digit d) (all_ascii_digits ds) h).0))
-    ∙ ap (λ o. then o (λ k. Ok (Number k))) (digits_read 0 (d ∷ ds) h (omega arith) ∙ ap Ok e)
+    ∙ ap (λ o. then o (λ k. Ok (Number k))) (sym (same_digits 0 (d ∷ ds)) ∙ number)
 
--- no digit ends a line, and none separates words
-digit_stays : (d k : ℕ) → is_ascii_digit d ≡ true → ends d k ≡ false
-digit_stays d k h =
-    let low = digit_low d h in
-    rw (ne_eqb d 35 (λ e. omega arith), ne_eqb d 13 (λ e. omega arith))
-
+-- and none separates words
 digit_joins : (d : ℕ) → is_ascii_digit d ≡ true → separates d ≡ false
 digit_joins d h =
     let low = digit_low d h in
     let high = digit_high d h in
     rw (ne_eqb d 32 (λ e. omega arith), ne_eqb d 9 (λ e. omega arith), ne_eqb d 44 (λ e. omega arith), ne_eqb d 58 (λ e. omega arith), ne_eqb d 40 (λ e. omega arith), ne_eqb d 41 (λ e. omega arith))
-
-plain_digits : (ds rest : List ℕ) → all_ascii_digits ds ≡ true → plain (ds ++ rest) ≡ ds ++ plain rest
-unfolding plain
-plain_digits [] rest h = refl
-plain_digits (d ∷ ds) rest h =
-    let parts = and_parts (is_ascii_digit d) (all_ascii_digits ds) h in
-    cond-false _ _ _ (digit_stays d _ parts.0) ∙ ap (λ l. d ∷ l) (plain_digits ds rest parts.1)
 
 marks_digits : (w ds rest : List ℕ) → all_ascii_digits ds ≡ true → marks w (ds ++ rest) ≡ marks (w ++ ds) rest
 marks_digits w [] rest h = ap (λ l. marks l rest) (sym (append-nil w))

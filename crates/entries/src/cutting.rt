@@ -1,12 +1,13 @@
 // A line cut into its marks.
-ghost use Rattle.std.specs.Prelude.{◌≡◌, ◌≤◌, [], length, take};
-ghost use Rattle.phrase.specs.Words.{ends, plain};
+ghost use Rattle.std.specs.Prelude.{◌≡◌, []};
+ghost use Rattle.phrase.specs.Words.{plain};
 ghost use Rattle.entries.specs.Marks.{sign, separates, marks};
 ghost use Rattle.entries.specs.Reading.{Reads, Closes, Signs};
 
 use crate::fault::ReadError;
 use crate::mark::Mark;
 use crate::word::read_word;
+use phrase::without_comment;
 use std::alloc::Global;
 
 fn sign(b: u8) -> Option<Mark>
@@ -26,26 +27,6 @@ fn separates(b: u8) -> bool
     ensures { result ≡ separates b }
 {
     b == b' ' || b == b'\t' || sign(b).is_some()
-}
-
-// Nothing is read from a `#` on, nor a carriage return at the very end.
-fn ends_here(b: u8, after: usize) -> bool
-    ensures { result ≡ ends b after }
-{
-    b == b'#' || b == b'\r' && after == 0
-}
-
-// How many bytes come before the comment.
-fn plain_length(line: &[u8]) -> usize
-    ensures within { result ≤ length line.now }
-    ensures value { take result line.now ≡ plain line.now }
-{
-    for (i, b) in line.iter().enumerate() {
-        if ends_here(*b, line.len() - i - 1) {
-            return i;
-        }
-    }
-    line.len()
 }
 
 // Adds the word that ends here, if there is one.
@@ -91,5 +72,5 @@ fn cut_marks(heap: Global, text: &[u8]) -> Result<Vec<Mark>, ReadError>
 pub(crate) fn read_marks(heap: Global, line: &[u8]) -> Result<Vec<Mark>, ReadError>
     ensures { Reads result (marks [] (plain line.now)) (λ v. v.items) }
 {
-    cut_marks(heap, &line[0..plain_length(line)])
+    cut_marks(heap, without_comment(line))
 }

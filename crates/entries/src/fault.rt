@@ -1,4 +1,5 @@
 // Why a line of a register is no entry.
+use phrase::BadDigits;
 use std::alloc::{AllocError, AllocFailed};
 use std::fmt;
 
@@ -42,6 +43,20 @@ impl fmt::Display for Fault {
 }
 
 impl std::error::Error for Fault {}
+
+impl From<BadDigits> for Fault {
+    ghost use Rattle.std.specs.Prelude.{◌≡◌};
+    ghost use Rattle.entries.specs.Digits.{digits_fault};
+
+    ghost from_gives = { λ bad fault. fault ≡ digits_fault bad };
+
+    fn from(bad: BadDigits) -> Self {
+        match bad {
+            BadDigits::NotADigit => Fault::NotANumber,
+            BadDigits::TooLarge => Fault::TooLarge,
+        }
+    }
+}
 
 // Why no entry was read.
 #[derive(Clone, Copy, PartialEq, Eq, Debug)]
