@@ -1,7 +1,6 @@
 -- The digits of a word, as the reader of digits has them.
-use Rattle.std.proofs.Common.{◌≡◌, ℕ, ◌+◌, ◌-◌, ◌*◌, ◌^◌, Bool, true, false, cond, ltb, List, [], ◌∷◌, Some, Ok, Err, Result, refl}
+use Rattle.std.proofs.Common.{◌≡◌, ℕ, ◌+◌, ◌-◌, ◌*◌, ◌^◌, Bool, true, false, cond, ltb, List, [], ◌∷◌, Ok, Err, Result, refl}
 use Rattle.std.specs.Char.{is_ascii_digit}
-use Rattle.std.specs.Result.{result_ok}
 use Rattle.phrase.specs.declared.number.BadDigits.{BadDigits}
 use Rattle.phrase.specs.declared.number.BadDigits.TheVariants as bad
 use Rattle.phrase.specs.Digits.{digits_after}
@@ -25,7 +24,3 @@ pub same_digits : (n : ℕ) (ds : List ℕ) → faulted (digits_after n ds) ≡ 
 unfolding digits_after digits
 same_digits n [] = refl
 same_digits n (d ∷ ds) = one_more (is_ascii_digit d) (ltb (n * 10 + (d - 48)) (2 ^ 64)) (n * 10 + (d - 48)) (λ k. digits_after k ds) _ (same_digits (n * 10 + (d - 48)) ds)
-
-pub faulted_number : (r : Result ℕ BadDigits) (n : ℕ) → result_ok r ≡ Some n → faulted r ≡ Ok n
-faulted_number (Ok m) n h = cc
-faulted_number (Err e) n h = cc

@@ -1,32 +1,27 @@
 -- A number that was written is read back as a mark.
-use Rattle.std.proofs.Common.{◌≡◌, ℕ, ◌+◌, ◌-◌, ◌*◌, ◌^◌, ◌<◌, ◌≤◌, true, false, cond, ltb, leb, List, [], ◌∷◌, ◌++◌, length, Some, Ok, decimal, Result, sym, refl, ap, ◌∙◌, append_assoc, append-nil, arith, rules}
+use Rattle.std.proofs.Common.{◌≡◌, ℕ, ◌+◌, ◌^◌, ◌<◌, true, false, cond, ltb, List, [], ◌∷◌, ◌++◌, length, Ok, decimal, Result, sym, refl, ap, ◌∙◌, append_assoc, append-nil, arith}
 use Rattle.std.specs.Char.{is_ascii_digit}
 use Rattle.std.specs.Str.{all_ascii_digits}
-use Rattle.std.proofs.lemmas.Fmt.{decimal_nonempty, digits_decimal, digits_value-decimal}
-use Rattle.std.proofs.lemmas.Bool.{and_parts, cond-true, cond-false, ne_eqb, lt-ltb, leb-true}
+use Rattle.std.proofs.lemmas.Fmt.{decimal_nonempty}
+use Rattle.std.proofs.lemmas.Bool.{and_parts, cond-true, cond-false, ne_eqb, lt-ltb}
 use Rattle.phrase.specs.Words.{plain}
-use Rattle.phrase.proofs.Digits.{digits_read as result_of_digits}
-use Rattle.phrase.proofs.Spelling.{folded, own, digits_read, digit_low, digit_high, plain_digits}
+use Rattle.phrase.proofs.Decimals.{digit_low, digit_high, decimal_digits, decimal_read, decimal_plain}
 use Rattle.entries.specs.declared.fault.Fault.{Fault}
 use Rattle.entries.specs.declared.mark.Mark.{Mark}
 use Rattle.entries.specs.declared.mark.Mark.TheVariants.{Number}
 use Rattle.entries.specs.Marks.{separates, before, closed, marks}
 use Rattle.entries.specs.Words.{then, is_polygon, word}
 use Rattle.entries.proofs.Cuts.{marks_on}
-use Rattle.entries.proofs.Digits.{same_digits, faulted_number}
+use Rattle.entries.proofs.Digits.{faulted, same_digits}
 
--- what begins with a digit is not the word `polygon`
-not_polygon : (d : ℕ) (ds : List ℕ) → d ≤ 57 → is_polygon (d ∷ ds) ≡ false
-not_polygon d ds h = rw (cond-true (ltb d 65) d (cond (ltb d 91) (d + 32) d) (lt-ltb d 65 (omega arith)), ne_eqb d 112 (λ e. omega arith))
+-- digits are not the word `polygon`
+not_polygon : (w : List ℕ) → all_ascii_digits w ≡ true → 0 < length w → is_polygon w ≡ false
+not_polygon [] h some = absurd (omega arith)
+not_polygon (d ∷ ds) h some =
+    let high = digit_high d (and_parts (is_ascii_digit d) (all_ascii_digits ds) h).0 in
+    rw (cond-true (ltb d 65) d (cond (ltb d 91) (d + 32) d) (lt-ltb d 65 (omega arith)), ne_eqb d 112 (λ e. omega arith))
 
-word_read : (ds : List ℕ) (n : ℕ) → all_ascii_digits ds ≡ true → 0 < length ds → folded 0 ds ≡ n → n < 2 ^ 64 → word ds ≡ Ok (Number n)
-word_read [] n h some e small = absurd (omega arith)
-word_read (d ∷ ds) n h some e small =
-    let number = faulted_number _ _ (result_of_digits 0 (d ∷ ds) ∙ digits_read 0 (d ∷ ds) h (omega arith) ∙ ap Some e) in
-    cond-false _ _ _ (not_polygon d ds (digit_high d (and_parts (is_ascii_digit d) (all_ascii_digits ds) h).0))
-    ∙ ap (λ o. then o (λ k. Ok (Number k))) (sym (same_digits 0 (d ∷ ds)) ∙ number)
-
--- and none separates words
+-- and no digit separates words
 digit_joins : (d : ℕ) → is_ascii_digit d ≡ true → separates d ≡ false
 digit_joins d h =
     let low = digit_low d h in
@@ -45,15 +40,15 @@ closed_some (b ∷ w) o h = refl
 
 -- Below, n is a number of 64 bits as it is written.
 module _ (n : ℕ) (small : n < 2 ^ 64) where
-  all : all_ascii_digits (decimal n) ≡ true
-  all = digits_decimal own n small
+  word_read : word (decimal n) ≡ Ok (Number n)
+  word_read =
+      cond-false _ _ _ (not_polygon (decimal n) (decimal_digits n small) (decimal_nonempty n small))
+      ∙ ap (λ o. then o (λ k. Ok (Number k))) (sym (same_digits 0 (decimal n)) ∙ ap faulted (decimal_read n small))
 
   -- it is read at the beginning of a text
   pub number_first : (rest : List ℕ) → marks [] (plain (decimal n ++ rest)) ≡ marks (decimal n) (plain rest)
-  number_first rest = ap (marks []) (plain_digits (decimal n) rest all) ∙ marks_digits [] (decimal n) (plain rest) all
+  number_first rest = ap (marks []) (decimal_plain n small rest) ∙ marks_digits [] (decimal n) (plain rest) (decimal_digits n small)
 
   -- and ends before the marks that follow
   pub number_then : (o : Result (List Mark) Fault) → closed (decimal n) o ≡ before (Number n) o
-  number_then o =
-      closed_some (decimal n) o (decimal_nonempty n small)
-      ∙ ap (λ p. then p (λ m. before m o)) (word_read (decimal n) n all (decimal_nonempty n small) (digits_value-decimal own n small) small)
+  number_then o = closed_some (decimal n) o (decimal_nonempty n small) ∙ ap (λ p. then p (λ m. before m o)) word_read

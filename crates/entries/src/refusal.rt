@@ -17,8 +17,10 @@ fn refusal_words(
 {
     match (refusal, why) {
         (Refusal::Taken, _) => format!(in heap; "there is a ground {number} already"),
-        (Refusal::NoRoom, _) =>
-            String::from_str(heap, "no room: more than 1024 grounds or 32768 corners"),
+        (Refusal::NoRoom, _) => String::from_str(
+            heap,
+            "no room: more than 1024 grounds or 32768 corners",
+        ),
         (Refusal::NoGround, Some(reason)) => reason.to_string(heap),
         _ => {
             let code = u64::from(refusal);

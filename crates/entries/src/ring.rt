@@ -14,13 +14,7 @@ fn in_brackets(marks: &[Mark]) -> Option<&[Mark]>
     ensures { MatchOption result (bracketed marks.now ≡ false) (λ inner. (bracketed marks.now ≡ true) × (inner.now ≡ between 2 (length marks.now - 2) marks.now)) }
 {
     match marks {
-        [
-            Mark::Open,
-            Mark::Open,
-            inner @ ..,
-            Mark::Close,
-            Mark::Close,
-        ] => Some(inner),
+        [Mark::Open, Mark::Open, inner @ .., Mark::Close, Mark::Close] => Some(inner),
         _ => None,
     }
 }
