@@ -1,13 +1,12 @@
 -- A ring as an open path and the edge that closes it, and both read from a row.
-use Rattle.std.proofs.Common.{◌≡◌, ℕ, zero, suc, ◌+◌, ◌-◌, ◌*◌, ◌/◌, ◌%◌, ◌<◌, ◌≤◌, List, [], ◌∷◌, ◌++◌, length, get_or, take, drop, sym, refl, ap, ◌∙◌, subst, arith, length-drop}
+use Rattle.std.proofs.Common.{◌≡◌, ℕ, zero, suc, ◌+◌, ◌-◌, ◌*◌, ◌/◌, ◌%◌, ◌≤◌, List, [], ◌∷◌, ◌++◌, length, get_or, take, drop, sym, refl, ap, ◌∙◌, subst, arith, length-drop}
 use Rattle.std.proofs.lemmas.List.{take_rest, get_or-drop, drop-drop}
 use Rattle.plane.specs.Corners.{Corner, corner}
-use Rattle.plane.specs.Edges.{Edge, edge}
+use Rattle.plane.specs.Edges.{edge}
 use Rattle.ground.specs.Shapes.{Shape, edges, edges_from}
 use Rattle.ground.specs.Rows.{corners, shape_of}
 use Rattle.ground.specs.Paths.{path}
-use Rattle.ground.proofs.Rows.{front, beyond}
-use Rattle.ground.proofs.Paths.{path_more, path_none}
+use Rattle.ground.proofs.Rows.{front}
 use Rattle.ground.proofs.Pairs.{Fitted, fitted_none}
 
 unfoldable last_corner : Corner → Shape → Corner
@@ -102,12 +101,3 @@ pub path_many : (a : Corner) (cs : Shape) → length (path a cs) ≡ length cs
 unfolding path
 path_many a [] = refl
 path_many a (b ∷ bs) = ap suc (path_many b bs)
-
--- the next corner of the row ends the next edge; where no corner is left, only the last edge is
-pub fitted_next : (es : List Edge) (i : ℕ) (e : Edge) (a : Corner) (rest : List ℕ) (z : Edge) → 2 ≤ length rest →
-    Fitted es i e (path a (shape_of rest)) z → Fitted es i e (edge a (front rest) ∷ path (front rest) (shape_of (beyond rest))) z
-fitted_next es i e a rest z h s = rw (path_more a rest h) at s
-
-pub fitted_end : (es : List Edge) (i : ℕ) (e : Edge) (a : Corner) (rest : List ℕ) (z : Edge) → length rest < 2 →
-    Fitted es i e (path a (shape_of rest)) z → Fitted es i e [] z
-fitted_end es i e a rest z h s = rw (path_none a rest h) at s

@@ -1,6 +1,7 @@
 -- A list gone through one by one up to the first element that fails a test.
-use Rattle.std.proofs.Common.{◌≡◌, ℕ, suc, ◌+◌, ◌<◌, Bool, true, false, ◌&&◌, List, [], ◌∷◌, length, get_or, drop, sym, refl, ap, ◌∙◌, add-zero, arith, length-drop, below_more}
+use Rattle.std.proofs.Common.{◌≡◌, ℕ, zero, suc, ◌+◌, ◌<◌, Bool, true, false, ◌&&◌, List, [], ◌∷◌, length, get_or, drop, Option, Some, None, MatchOption, sym, ap, ◌∙◌, add-zero, arith, length-drop}
 use Rattle.std.proofs.lemmas.List.{get_or-drop, drop-drop}
+use Rattle.std.specs.List.{AllWithin, HoldsAt}
 use Rattle.std.proofs.lemmas.Bool.{and_left}
 
 -- what is left of a list behind its first k elements
@@ -17,12 +18,6 @@ left_at xs k y ys h =
       within = let n : length (drop k xs) ≡ suc (length ys) = ap length h in omega (arith, length-drop k xs);
     }
 
--- k elements are passed and pass the test, and what is left tells whether all do
-pub record Passed {A : Type 0} (good : A → Bool) (all : List A → Bool) (d : A) (xs : List A) (k : ℕ) (left : List A) : Type 0 where
-  pub goes_on : drop k xs ≡ left
-  pub tells : all left ≡ all xs
-  pub before : (j : ℕ) → j < k → good (get_or xs j d) ≡ true
-
 -- the element at k is the first that fails
 pub record FailsAt {A : Type 0} (good : A → Bool) (all : List A → Bool) (d : A) (xs : List A) (k : ℕ) : Type 0 where
   pub among : k < length xs
@@ -30,23 +25,21 @@ pub record FailsAt {A : Type 0} (good : A → Bool) (all : List A → Bool) (d :
   pub before : (j : ℕ) → j < k → good (get_or xs j d) ≡ true
   pub tells : all xs ≡ false
 
-module _ {A : Type 0} (good : A → Bool) (all : List A → Bool) (one_more : (x : A) (xs : List A) → all (x ∷ xs) ≡ (good x && all xs)) (d : A) (xs : List A) where
-  pub passed_none : Passed good all d xs 0 xs
-  passed_none = record { goes_on = refl; tells = refl; before = λ j h. absurd (omega arith) }
+-- what a search for it tells
+abbrev pub Searched : {A : Type 0} → (A → Bool) → List A → Option ℕ → Type 0
+Searched good xs r =
+    MatchOption r (AllWithin (λ y. good y ≡ true) xs 0 (length xs)) (λ k. (k < length xs) × HoldsAt (λ y. good y ≡ false) xs k × AllWithin (λ y. good y ≡ true) xs 0 k)
 
-  pub passed_more : (k : ℕ) (y : A) (ys : List A) → Passed good all d xs k (y ∷ ys) → good y ≡ true → Passed good all d xs (k + 1) ys
-  passed_more k y ys h ok =
-      let left = left_at xs k y ys h.goes_on in
-      record {
-        goes_on = left.on;
-        tells = sym (one_more y ys ∙ ap (λ t. t && all ys) ok) ∙ h.tells;
-        before = below_more (λ j. good (get_or xs j d) ≡ true) k h.before (rw (left.here d) ok);
-      }
+module _ {A : Type 0} (good : A → Bool) (all : List A → Bool) (none : all [] ≡ true) (one_more : (x : A) (xs : List A) → all (x ∷ xs) ≡ (good x && all xs)) (d : A) where
+  all_pass : (xs : List A) → ((k : ℕ) → k < length xs → good (get_or xs k d) ≡ true) → all xs ≡ true
+  all_pass [] h = none
+  all_pass (x ∷ xs) h = one_more x xs ∙ ap (λ t. t && all xs) (h 0 (omega arith)) ∙ all_pass xs (λ k l. h (suc k) (omega arith))
 
-  pub passed_to : (k : ℕ) (y : A) (ys : List A) → Passed good all d xs k (y ∷ ys) → good y ≡ false → FailsAt good all d xs k
-  passed_to k y ys h bad =
-      let left = left_at xs k y ys h.goes_on in
-      record { among = left.within; fails = rw (left.here d) bad; before = h.before; tells = sym h.tells ∙ one_more y ys ∙ and_left _ _ bad }
+  one_fails : (xs : List A) (k : ℕ) → k < length xs → good (get_or xs k d) ≡ false → all xs ≡ false
+  one_fails [] k l h = absurd (omega arith)
+  one_fails (x ∷ xs) zero l h = one_more x xs ∙ and_left _ _ h
+  one_fails (x ∷ xs) (suc k) l h = let e = one_fails xs k (omega arith) h in let m = one_more x xs in grind arith
 
-  pub passed_all : (k : ℕ) → Passed good all d xs k [] → all [] ≡ true → all xs ≡ true
-  passed_all k h none = sym h.tells ∙ none
+  pub fails_first : (xs : List A) (r : Option ℕ) → Searched good xs r → MatchOption r (all xs ≡ true) (λ k. FailsAt good all d xs k)
+  fails_first xs None h = all_pass xs (λ k l. h k d (omega arith) l)
+  fails_first xs (Some k) (l, bad, ok) = record { among = l; fails = bad d; before = λ j b. ok j d (omega arith) b; tells = one_fails xs k l (bad d) }

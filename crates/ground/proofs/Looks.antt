@@ -1,5 +1,5 @@
 -- A look at a ring, edge by edge: what is noted of the edges one by one is what there is to be seen of the whole.
-use Rattle.std.proofs.Common.{◌≡◌, ℕ, suc, ◌/◌, ◌%◌, ◌<◌, ◌≤◌, Bool, true, false, not, ◌&&◌, eqb, ltb, List, [], ◌∷◌, length, Some, None, Option, sym, refl, ap, ◌∙◌, subst, arith}
+use Rattle.std.proofs.Common.{◌≡◌, ℕ, suc, ◌/◌, ◌%◌, Bool, true, false, not, ◌&&◌, eqb, ltb, List, [], ◌∷◌, length, Some, None, Option, sym, refl, ap, ◌∙◌, subst, arith}
 use Rattle.std.proofs.lemmas.Bool.Decides.{nat_tests}
 use Rattle.std.proofs.lemmas.Bool.{eq-eqb}
 use Rattle.plane.specs.Lists.{or, pick, any, those, every}
@@ -15,7 +15,6 @@ use Rattle.ground.specs.Shapes.{Point, Shape, edges, edges_from, as_corner, on_b
 use Rattle.ground.specs.Rows.{near_corner, corners, shape_of}
 use Rattle.ground.specs.Looks.{point, look_fits, look_of, noted}
 use Rattle.ground.specs.declared.looking.Look.{Look}
-use Rattle.ground.proofs.Rows.{front, beyond, at_more, at_none}
 
 -- what is seen when the edges that are left are looked at too: f and g say of each whether it holds the point and whether it is crossed
 abbrev with_edge : (f g : Edge → Bool) → Look → Edge → Look
@@ -98,39 +97,33 @@ numbers_near (x ∷ y ∷ ys) h =
     let e = numbers_near ys (omega arith) in grind (arith, nat_tests) in
     left ∙ ap (λ n. every near_corner (corners n (x ∷ y ∷ ys))) (sym half)
 
--- an edge out of range makes the row so: one on the way, and the one back to the first corner
-pub far_next : (a : Corner) (rest : List ℕ) → 2 ≤ length rest → near_edge (edge a (front rest)) ≡ false → every near_corner (a ∷ shape_of rest) ≡ false
+-- edges are in range one by one, and those of a ring are if its corners are
+pub near_more : (e : Edge) (es left : List Edge) → es ≡ e ∷ left → near_edge e ≡ true → every near_edge left ≡ every near_edge es
 unfolding every
-far_next a rest h far = at_more (λ cs. near_corner a && every near_corner cs) rest h ∙ both (near_corner a) (near_corner (front rest)) _ far
-  where
-    both : (t u v : Bool) → t && u ≡ false → t && (u && v) ≡ false
-    both t u v k = grind arith
+near_more e es left h near = sym (ap (every near_edge) h ∙ ap (λ t. t && every near_edge left) near)
 
-pub far_close : (a : Corner) (row : List ℕ) (cs : Shape) → 2 ≤ length row → every near_corner (a ∷ cs) ≡ every near_corner (shape_of row) →
-    near_edge (edge a (front row)) ≡ false → every near_corner (shape_of row) ≡ false
+pub near_fails : (e : Edge) (es left : List Edge) → es ≡ e ∷ left → near_edge e ≡ false → every near_edge es ≡ false
 unfolding every
-far_close a row cs h same far =
-    let e = at_more (every near_corner) row h in
-    both (near_corner a) (near_corner (front row)) _ _ far same e
-  where
-    both : (t u v x : Bool) {y : Bool} → t && u ≡ false → t && v ≡ y → y ≡ u && x → y ≡ false
-    both t u v x k l m = grind arith
+near_fails e es left h far = ap (every near_edge) h ∙ ap (λ t. t && every near_edge left) far
 
--- an edge in range leaves the others to be looked at
-pub near_next : (a : Corner) (rest : List ℕ) → 2 ≤ length rest → near_edge (edge a (front rest)) ≡ true →
-    every near_corner (front rest ∷ shape_of (beyond rest)) ≡ every near_corner (a ∷ shape_of rest)
-unfolding every
-near_next a rest h near = both (near_corner a) (near_corner (front rest)) _ near ∙ sym (at_more (λ cs. near_corner a && every near_corner cs) rest h)
+from_near : (f a : Corner) (cs : Shape) → every near_edge (edges_from f a cs) ≡ near_corner a && (every near_corner cs && near_corner f)
+unfolding every edges_from
+from_near f a [] = both (near_corner a) (near_corner f)
   where
-    both : (t u v : Bool) → t && u ≡ true → u && v ≡ t && (u && v)
-    both t u v k = grind arith
+    both : (t u : Bool) → (t && u) && true ≡ t && (true && u)
+    both t u = grind arith
+from_near f a (b ∷ bs) = ap (λ t. near_edge (edge a b) && t) (from_near f b bs) ∙ both (near_corner a) (near_corner b) (every near_corner bs) (near_corner f)
+  where
+    both : (t u v x : Bool) → (t && u) && (u && (v && x)) ≡ t && ((u && v) && x)
+    both t u v x = grind arith
 
-pub near_close : (a f : Corner) (rest : List ℕ) → length rest < 2 → near_edge (edge a f) ≡ true → every near_corner (a ∷ shape_of rest) ≡ true
-unfolding every
-near_close a f rest h near = at_none (λ cs. near_corner a && every near_corner cs) rest h ∙ both (near_corner a) (near_corner f) near
+pub ring_near : (s : Shape) → every near_edge (edges s) ≡ every near_corner s
+unfolding every edges
+ring_near [] = refl
+ring_near (a ∷ as₁) = from_near a a as₁ ∙ both (near_corner a) (every near_corner as₁)
   where
-    both : (t u : Bool) → t && u ≡ true → t && true ≡ true
-    both t u k = grind arith
+    both : (t u : Bool) → t && (u && t) ≡ t && u
+    both t u = grind arith
 
 -- THE ANSWER
 abbrev Answers : List ℕ → ℕ → ℕ → ℕ → Option Look → Type 0
@@ -150,30 +143,3 @@ answers_near row a b w l even stands near e =
   where
     all : (t u v : Bool) → t ≡ true → u ≡ true → v ≡ true → (t && u) && v ≡ true
     all t u v h k l = grind arith
-
-pub answers_empty : (row : List ℕ) (a b w : ℕ) → length row ≡ 0 → view_fits a b w ≡ true → Answers row a b w (Some nothing)
-unfolding corners edges any those every
-answers_empty [] a b w h stands = answers_near [] a b w nothing refl stands refl refl
-answers_empty (x ∷ xs) a b w h stands = absurd (omega arith)
-
--- THE ROW, corner by corner
-
--- before the first edge nothing is seen, and all is left
-pub look_begins : (p : Point) (row : List ℕ) → 2 ≤ length row →
-    seen p nothing (edges_from (front row) (front row) (shape_of (beyond row))) ≡ look_of (shape_of row) p
-unfolding edges
-look_begins p row h = sym (at_more (λ s. seen p nothing (edges s)) row h) ∙ seen_all p (shape_of row)
-
--- the edge to the front corner is noted, and the others are left
-pub look_goes_on : (p : Point) (l : Look) (f a : Corner) (rest : List ℕ) (r : Sight) → 2 ≤ length rest →
-    SeenAt p.w (edge a (front rest)) (as_corner p) r →
-    seen p (noted l r) (edges_from f (front rest) (shape_of (beyond rest))) ≡ seen p l (edges_from f a (shape_of rest))
-unfolding edges_from
-look_goes_on p l f a rest r h s =
-    seen_more p l (edge a (front rest)) (edges_from f (front rest) (shape_of (beyond rest))) r s ∙ sym (at_more (λ cs. seen p l (edges_from f a cs)) rest h)
-
--- at the end the edge back to the first corner is left
-pub look_ends : (p : Point) (l : Look) (f a : Corner) (rest : List ℕ) (r : Sight) → length rest < 2 →
-    SeenAt p.w (edge a f) (as_corner p) r → noted l r ≡ seen p l (edges_from f a (shape_of rest))
-unfolding edges_from
-look_ends p l f a rest r h s = seen_more p l (edge a f) [] r s ∙ sym (at_none (λ cs. seen p l (edges_from f a cs)) rest h)

@@ -1,5 +1,5 @@
 -- The two sums of products whose difference is twice the area, product by product.
-use Rattle.std.proofs.Common.{◌≡◌, ℕ, suc, ◌+◌, ◌-◌, ◌*◌, ◌<◌, ◌≤◌, true, false, ltb, List, [], ◌∷◌, length, Some, None, Option, sym, arith, MatchOption}
+use Rattle.std.proofs.Common.{◌≡◌, ℕ, suc, ◌+◌, ◌-◌, ◌*◌, ◌<◌, ◌≤◌, true, false, ltb, List, [], ◌∷◌, length, Some, None, Option, sym, ap, arith, MatchOption}
 use Rattle.std.proofs.lemmas.Bool.{ltb-true, lt-ltb, le-ltb, and_parts}
 use Rattle.std.proofs.lemmas.Nat.{mul-le}
 use Rattle.plane.specs.Lists.{every, added_up}
@@ -9,23 +9,17 @@ use Rattle.ground.specs.Rows.{near_corner}
 use Rattle.ground.specs.Shapes.{Shape, edges, edges_from, left_sum, right_sum, twice_area}
 use Rattle.ground.specs.Rows.{shape_of}
 use Rattle.ground.specs.Refusals.{goes_left}
-use Rattle.ground.proofs.Rows.{front, beyond, at_more, at_none}
 use Rattle.ground.proofs.Closing.{shape_many}
 
--- a sum over the edges of a ring, with n added up so far
+-- a sum over edges, one by one
 module _ (g : Edge → ℕ) where
-  pub sum_begins : (xs : List ℕ) → 2 ≤ length xs → added_up g (edges_from (front xs) (front xs) (shape_of (beyond xs))) ≡ added_up g (edges (shape_of xs))
-  unfolding edges
-  sum_begins xs h = sym (at_more (λ s. added_up g (edges s)) xs h)
+  pub sum_more : (e : Edge) (es left : List Edge) → es ≡ e ∷ left → g e + added_up g left ≡ added_up g es
+  unfolding added_up
+  sum_more e es left h = sym (ap (added_up g) h)
 
-  pub sum_goes_on : (f a : Corner) (rest : List ℕ) → 2 ≤ length rest →
-      g (edge a (front rest)) + added_up g (edges_from f (front rest) (shape_of (beyond rest))) ≡ added_up g (edges_from f a (shape_of rest))
-  unfolding edges_from added_up
-  sum_goes_on f a rest h = sym (at_more (λ cs. added_up g (edges_from f a cs)) rest h)
-
-  pub sum_ends : (f a : Corner) (rest : List ℕ) → length rest < 2 → g (edge a f) + 0 ≡ added_up g (edges_from f a (shape_of rest))
-  unfolding edges_from added_up
-  sum_ends f a rest h = sym (at_none (λ cs. added_up g (edges_from f a cs)) rest h)
+  pub sum_none : (es : List Edge) → es ≡ [] → added_up g es ≡ 0
+  unfolding added_up
+  sum_none es h = ap (added_up g) h
 
   -- each product is small, so the sum is
   module _ (small : (a b : Corner) → near_corner a ≡ true → near_corner b ≡ true → g (edge a b) ≤ 1099511627776) where
@@ -58,11 +52,7 @@ pub right_small : (xs : List ℕ) → length xs ≤ 512 → every near_corner (s
 right_small xs few near =
     omega (arith, shape_many xs, ring_small (λ e. e.one.y * e.other.x) (λ a b p q. omega (arith, mul-le a.y b.x 1048576 1048576 (omega (arith, near_parts a p)) (omega (arith, near_parts b q)))) (shape_of xs) near)
 
--- what the sums tell: fewer than two numbers have no area, and else the larger sum tells which way the ring goes round
-pub no_area : (xs : List ℕ) → length xs < 2 → goes_left (shape_of xs) ≡ false
-unfolding edges added_up
-no_area xs h = at_none goes_left xs h
-
+-- what the sums tell: the larger one tells which way the ring goes round
 pub area_so : (s : Shape) (l r : ℕ) → l ≡ left_sum s → r ≡ right_sum s → (lead : Option ℕ) → MatchOption lead (l ≤ r) (λ n. (r < l) × (n ≡ l - r)) →
     MatchOption lead (goes_left s ≡ false) (λ n. (goes_left s ≡ true) × (n ≡ twice_area s))
 area_so s l r p q None h = le-ltb _ _ (omega arith)

@@ -7,10 +7,11 @@ ghost use Rattle.plane.specs.Lists.{every};
 ghost use Rattle.ground.specs.Rows.{near_corner};
 
 use crate::range::first_far;
-use plane::{Corner, Edge};
+use crate::walks::Edges;
+use plane::Edge;
 
 // The products of the edges so far, both ways: twice the area is the difference of these sums over a whole ring.
-#[derive(Clone, Copy)]
+#[derive(Clone, Copy, Default)]
 struct Sums {
     left: u64,
     right: u64,
@@ -63,19 +64,9 @@ pub(crate) fn area_to_the_left(row: &[u64]) -> Option<u64>
     requires { (length row.now ≤ 512) × (every near_corner (shape_of row.now) ≡ true) }
     ensures { MatchOption result (goes_left (shape_of row.now) ≡ false) (λ n. (goes_left (shape_of row.now) ≡ true) × (n ≡ twice_area (shape_of row.now))) }
 {
-    let [x, y, rest @ ..] = row else {
-        return None;
-    };
-    let first = Corner { x: *x, y: *y };
-    let mut one = first;
-    let mut sums = Sums { left: 0, right: 0 };
-    let mut rest = rest;
-    while let [x, y, more @ ..] = rest {
-        let other = Corner { x: *x, y: *y };
-        sums = sums.with(Edge { one, other });
-        one = other;
-        rest = more;
+    let mut sums = Sums::default();
+    for edge in Edges::of(row) {
+        sums = sums.with(edge);
     }
-    let other = first;
-    sums.with(Edge { one, other }).lead()
+    sums.lead()
 }

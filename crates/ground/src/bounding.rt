@@ -5,6 +5,7 @@ ghost use Rattle.ground.specs.Rows.{shape_of};
 ghost use Rattle.plane.specs.Code.{at};
 ghost use Rattle.plane.specs.Lists.{pick};
 
+use crate::walks::Corners;
 use plane::Corner;
 use terms::Point;
 
@@ -32,19 +33,16 @@ impl Extent {
     fn of_corners(row: &[u64]) -> Option<Extent>
         ensures { result ≡ pick (nat_le 2 (length row.now)) (Some (box_of (shape_of row.now))) None }
     {
-        let [x, y, rest @ ..] = row else {
-            return None;
-        };
+        let mut corners = Corners::of(row);
+        let Corner { x, y } = corners.next()?;
         let mut extent = Extent {
-            west: *x,
-            south: *y,
-            east: *x,
-            north: *y,
+            west: x,
+            south: y,
+            east: x,
+            north: y,
         };
-        let mut rest = rest;
-        while let [x, y, more @ ..] = rest {
-            extent = extent.grown_to(Corner { x: *x, y: *y });
-            rest = more;
+        for corner in corners {
+            extent = extent.grown_to(corner);
         }
         Some(extent)
     }

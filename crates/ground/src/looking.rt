@@ -5,7 +5,8 @@ ghost use Rattle.ground.specs.Rows.{shape_of};
 ghost use Rattle.ground.specs.Shapes.{in_shape};
 ghost use Rattle.plane.specs.Lists.{pick};
 
-use plane::{Corner, Edge, Sight, Viewer};
+use crate::walks::Edges;
+use plane::{Sight, Viewer};
 use terms::Point;
 
 // What a point sees of a row's edges.
@@ -28,7 +29,7 @@ impl Look {
         Look::around(row, point)
     }
 
-    // The same for a row of whole corners: one edge after the other, and at the end the one back to the first corner.
+    // The same for a row of whole corners: one edge after the other.
     fn around(row: &[u64], point: Point) -> Option<Look>
         requires { length row.now % 2 ≡ 0 }
         ensures { result ≡ pick (look_fits row.now point.a point.b point.w) (Some (look_of (shape_of row.now) (point_at point.a point.b point.w))) None }
@@ -38,20 +39,10 @@ impl Look {
             border: false,
             odd: false,
         };
-        let [x, y, rest @ ..] = row else {
-            return Some(look);
-        };
-        let first = Corner { x: *x, y: *y };
-        let mut one = first;
-        let mut rest = rest;
-        while let [x, y, more @ ..] = rest {
-            let other = Corner { x: *x, y: *y };
-            look = look.noted(viewer.look(Edge { one, other })?);
-            one = other;
-            rest = more;
+        for edge in Edges::of(row) {
+            look = look.noted(viewer.look(edge)?);
         }
-        let other = first;
-        Some(look.noted(viewer.look(Edge { one, other })?))
+        Some(look)
     }
 
     // With one more edge looked at.

@@ -6,22 +6,15 @@ ghost use Rattle.plane.specs.Code.{at};
 ghost use Rattle.plane.specs.Lists.{every};
 ghost use Rattle.ground.specs.Rows.{near_corner};
 
+use crate::walks::Corners;
 use plane::{CORNER_LIMIT, Corner};
 
 // The number of the first corner out of range.
 pub(crate) fn first_far(row: &[u64]) -> Option<u64>
     ensures { MatchOption result (every near_corner (shape_of row.now) ≡ true) (λ k. (every near_corner (shape_of row.now) ≡ false) × FirstFar (shape_of row.now) k) }
 {
-    let mut before = 0;
-    let mut rest = row;
-    while let [x, y, more @ ..] = rest {
-        if !in_range(Corner { x: *x, y: *y }) {
-            return Some(before + 1);
-        }
-        rest = more;
-        before += 1;
-    }
-    None
+    let before = Corners::of(row).position(|c| !in_range(c))?;
+    Some(before as u64 + 1)
 }
 
 fn in_range(c: Corner) -> bool

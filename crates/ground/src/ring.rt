@@ -1,11 +1,13 @@
 // The edges of a ring: neighbours have their corner in common, and no other two have anything.
-ghost use Rattle.std.specs.Prelude.{◌≡◌, ◌%◌, ◌≤◌, true, false, length, MatchOption};
-ghost use Rattle.ground.specs.Paths.{path, FirstMet, fits_last};
+ghost use Rattle.std.specs.Prelude.{◌≡◌, ◌%◌, ◌^◌, ◌<◌, ◌≤◌, true, false, length, MatchOption};
+ghost use Rattle.ground.specs.Paths.{FirstMet, fits_last};
+ghost use Rattle.ground.specs.Walks.{edges_left};
 ghost use Rattle.ground.specs.Refusals.{FirstMeeting};
 ghost use Rattle.ground.specs.Rows.{shape_of};
 ghost use Rattle.ground.specs.Shapes.{edges, neighbours_fine, clear_of, ring_clear};
-ghost use Rattle.plane.specs.Code.{at, along};
+ghost use Rattle.plane.specs.Code.{along};
 
+use crate::walks::{Corners, Edges};
 use plane::{Corner, Edge};
 
 // Two edges that meet, by their numbers.
@@ -20,7 +22,7 @@ pub(crate) fn first_meeting(row: &[u64]) -> Option<Meeting>
     requires { (6 ≤ length row.now) × (length row.now % 2 ≡ 0) }
     ensures { MatchOption result (ring_clear (edges (shape_of row.now)) ≡ true) (λ m. (ring_clear (edges (shape_of row.now)) ≡ false) × FirstMeeting (edges (shape_of row.now)) m.first m.second) }
 {
-    let [ax, ay, bx, by, rest @ ..] = row else {
+    let [ax, ay, bx, by, others @ ..] = row else {
         return None;
     };
     let [.., zx, zy] = row else {
@@ -37,23 +39,20 @@ pub(crate) fn first_meeting(row: &[u64]) -> Option<Meeting>
         other: Corner { x: *bx, y: *by },
     };
     let mut first = 1;
-    let mut rest = rest;
-    while let [x, y, more @ ..] = rest {
-        let (one, other) = (edge.other, Corner { x: *x, y: *y });
-        let next = Edge { one, other };
+    let mut rest = Edges::along(edge.other, Corners::of(others));
+    while let Some(next) = rest.next() {
         if !joined(edge, next) {
             let second = first + 1;
             return Some(Meeting { first, second });
         }
-        if let Some(between) = first_met(edge, other, more) {
-            let second = first + 2 + between;
+        if let Some(between) = first_met(edge, rest) {
+            let second = first + 2 + between as u64;
             return Some(Meeting { first, second });
         }
         if !fits_last(first, edge, last) {
             return Some(Meeting { first, second: end });
         }
         edge = next;
-        rest = more;
         first += 1;
     }
     if joined(edge, last) {
@@ -63,26 +62,12 @@ pub(crate) fn first_meeting(row: &[u64]) -> Option<Meeting>
     }
 }
 
-// On the way from a corner over those of a row: how many edges come before the first that meets e.
-fn first_met(e: Edge, from: Corner, row: &[u64]) -> Option<u64>
-    ensures { MatchOption result (clear_of (along e) (path (at from) (shape_of row.now)) ≡ true) (λ k. FirstMet (along e) (path (at from) (shape_of row.now)) k) }
+// How many edges come before the first that meets e.
+fn first_met(e: Edge, mut others: Edges<'_>) -> Option<usize>
+    requires { length (edges_left others) < 2 ^ 64 }
+    ensures { MatchOption result (clear_of (along e) (edges_left others.entry) ≡ true) (λ k. FirstMet (along e) (edges_left others.entry) k) }
 {
-    let mut last = from;
-    let mut rest = row;
-    let mut before = 0;
-    while let [x, y, more @ ..] = rest {
-        let next = Corner { x: *x, y: *y };
-        if e.meet(Edge {
-            one: last,
-            other: next,
-        }) {
-            return Some(before);
-        }
-        last = next;
-        rest = more;
-        before += 1;
-    }
-    None
+    others.position(|f| e.meet(f))
 }
 
 // Whether an edge and the last one of the ring fit: the first edge is its neighbour.

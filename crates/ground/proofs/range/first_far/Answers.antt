@@ -1,25 +1,35 @@
-use Rattle.std.proofs.Common.{◌<◌, ◌≤◌, length, sym, arith, rules}
-use Rattle.ground.specs.Rows.{near_corner}
-use Rattle.ground.proofs.Rows.{beyond_length, shape_more, shape_none}
-use Rattle.ground.proofs.Fronts.{passed_more, passed_to, passed_all}
+use Rattle.std.proofs.Common.{◌≡◌, true, false, length, inl, ap, arith, rules}
+use Rattle.std.proofs.lemmas.Iterator.{IsFirst-from_position}
+use Rattle.std.proofs.lemmas.Iterator.Consumers.{YieldsList-from_first}
+use Rattle.plane.specs.Code.{at}
+use Rattle.plane.specs.Corners.{corner}
+use Rattle.plane.specs.Lists.{every}
+use Rattle.ground.specs.Rows.{near_corner, shape_of}
+use Rattle.ground.specs.Walks.{corners_left}
+use Rattle.ground.proofs.Closing.{shape_many}
+use Rattle.ground.proofs.Fronts.{FailsAt, fails_first}
 use Rattle.ground.proofs.Grounds.{every_more, every_none, first_far}
 use Rattle.ground.proofs.range.first_far.Goals as goal
 
-pub returns-then-not-in_range : goal.returns-then-not-in_range
-returns-then-not-in_range c =
-    let rest = c.loop-rest.rest.now in
-    let h : 2 ≤ length rest = search rules in
-    let found = passed_to near_corner _ every_more _ _ _ _ _ (rw (shape_more rest h) at c.loop-rest.invariant.0) (sym c.if-not-in_range.ensures) in
-    (found.tells, first_far _ _ found)
+pub position-requires-clause-fits : goal.position-requires-clause-fits
+position-requires-clause-fits c = inl (omega (arith, ap length c.of.ensures, shape_many c.args.row.now, c.well_formed.0.0))
 
-pub loop-rest-preserved : goal.loop-rest-preserved
-loop-rest-preserved c =
-    let rest = c.loop-rest.rest.now in
-    let h : 2 ≤ length rest = search rules in
-    (passed_more near_corner _ every_more _ _ _ _ _ (rw (shape_more rest h) at c.loop-rest.invariant.0) (sym c.if-not-in_range.ensures), omega (arith, beyond_length rest))
+pub returns-in_err-before : goal.returns-in_err-before
+returns-in_err-before c =
+    let s = shape_of c.args.row.now in
+    let told = fails_first near_corner (every near_corner) every_none every_more (corner 0 0) s c.position.result
+    (IsFirst-from_position c.position.new.self _ c.position.result (λ y. near_corner y ≡ false) (λ y. near_corner y ≡ true) c.position.ensures.ran
+    (YieldsList-from_first at corners_left s c.of.ensures) (λ x q k. search rules) (λ x q k. search rules)) in
+    rw c.from_residual.ensures (rw c.in_err-before.was at told)
+
+pub overflow_add-result : goal.overflow_add-result
+overflow_add-result c = omega (arith, c.in_ok-before.ensures.bound, ap length c.of.ensures, shape_many c.args.row.now, c.well_formed.0.0)
 
 pub returns : goal.returns
 returns c =
-    let rest = c.loop-rest.rest.now in
-    let h : length rest < 2 = search rules in
-    passed_all near_corner _ every_more _ _ _ (rw (shape_none rest h) at c.loop-rest.invariant.0) every_none
+    let s = shape_of c.args.row.now in
+    let told = fails_first near_corner (every near_corner) every_none every_more (corner 0 0) s c.position.result
+    (IsFirst-from_position c.position.new.self _ c.position.result (λ y. near_corner y ≡ false) (λ y. near_corner y ≡ true) c.position.ensures.ran
+    (YieldsList-from_first at corners_left s c.of.ensures) (λ x q k. search rules) (λ x q k. search rules)) in
+    let found : FailsAt near_corner (every near_corner) (corner 0 0) s c.in_ok-before.before = rw c.in_ok-before.was at told in
+    (found.tells, first_far s c.in_ok-before.before found)

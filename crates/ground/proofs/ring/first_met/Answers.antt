@@ -1,30 +1,29 @@
-use Rattle.std.proofs.Common.{◌<◌, ◌≤◌, not, length, sym, ap, arith, rules}
-use Rattle.plane.specs.Code.{at, along}
-use Rattle.ground.proofs.Rows.{beyond_length}
-use Rattle.ground.proofs.Fronts.{passed_none, passed_more, passed_to, passed_all}
-use Rattle.ground.proofs.Paths.{clear_more, clear_none, first_met, path_more, path_none}
+use Rattle.std.proofs.Common.{◌≡◌, true, false, List, Option, ℕ, Some, None, MatchOption, inl, refl, arith, rules}
+use Rattle.std.proofs.lemmas.Iterator.{IsFirst-from_position}
+use Rattle.std.proofs.lemmas.Iterator.Consumers.{YieldsList-from_first}
+use Rattle.plane.specs.Code.{along}
+use Rattle.plane.specs.Corners.{corner}
+use Rattle.plane.specs.Edges.{Edge, edge}
+use Rattle.ground.specs.Shapes.{clear_of}
+use Rattle.ground.specs.Paths.{FirstMet}
+use Rattle.ground.specs.Walks.{edges_left}
+use Rattle.ground.proofs.Fronts.{FailsAt, fails_first}
+use Rattle.ground.proofs.Paths.{unmet, clear_more, clear_none, first_met}
 use Rattle.ground.proofs.ring.first_met.Goals as goal
 
-pub loop-rest-init : goal.loop-rest-init
-loop-rest-init c = (passed_none _ _ (clear_more (along c.args.e)) _ _, omega arith)
+pub position-requires-clause-fits : goal.position-requires-clause-fits
+position-requires-clause-fits c = inl (omega (arith, c.requires))
 
-pub returns-then-meet : goal.returns-then-meet
-returns-then-meet c =
-    let rest = c.loop-rest.rest.now in
-    let h : 2 ≤ length rest = search rules in
-    let so_far = rw (path_more (at c.loop-rest.last) rest h) at c.loop-rest.invariant.0 in
-    first_met _ _ _ (passed_to _ _ (clear_more (along c.args.e)) _ _ _ _ _ so_far (ap not (sym c.if-meet.ensures)))
-
-pub loop-rest-preserved : goal.loop-rest-preserved
-loop-rest-preserved c =
-    let rest = c.loop-rest.rest.now in
-    let h : 2 ≤ length rest = search rules in
-    let so_far = rw (path_more (at c.loop-rest.last) rest h) at c.loop-rest.invariant.0 in
-    (passed_more _ _ (clear_more (along c.args.e)) _ _ _ _ _ so_far (ap not (sym c.if-meet.ensures)), omega (arith, beyond_length rest))
+found : (e : Edge) (es : List Edge) (r : Option ℕ) → MatchOption r (clear_of e es ≡ true) (λ k. FailsAt (unmet e) (clear_of e) (edge (corner 0 0) (corner 0 0)) es k) →
+    MatchOption r (clear_of e es ≡ true) (λ k. FirstMet e es k)
+found e es None h = h
+found e es (Some k) h = first_met e es k h
 
 pub returns : goal.returns
 returns c =
-    let rest = c.loop-rest.rest.now in
-    let h : length rest < 2 = search rules in
-    let so_far = rw (path_none (at c.loop-rest.last) rest h) at c.loop-rest.invariant.0 in
-    passed_all _ _ (clear_more (along c.args.e)) _ _ _ so_far (clear_none (along c.args.e))
+    let e = along c.args.e in
+    let es = edges_left c.args.others in
+    found e es c.position.result
+    (fails_first (unmet e) (clear_of e) (clear_none e) (clear_more e) (edge (corner 0 0) (corner 0 0)) es c.position.result
+    (IsFirst-from_position c.position.new.self _ c.position.result (λ y. unmet e y ≡ false) (λ y. unmet e y ≡ true) c.position.ensures.ran
+    (YieldsList-from_first along edges_left es refl) (λ x q k. search rules) (λ x q k. search rules)))

@@ -1,4 +1,4 @@
-use Rattle.std.proofs.Common.{◌≡◌, ℕ, List, true, false, Option, Some, None, ok_or, MatchOption, MatchResult, subst, sym, arith, rules}
+use Rattle.std.proofs.Common.{◌≡◌, ℕ, List, true, false, Option, Some, None, ok_or, MatchOption, MatchResult, arith, rules}
 use Rattle.ground.specs.Refusals.{is_ground, goes_left, InRange, Refuses}
 use Rattle.ground.specs.Rows.{shape_of}
 use Rattle.ground.specs.Shapes.{edges, ring_clear, twice_area}

@@ -1,61 +1,40 @@
-use Rattle.std.proofs.Common.{◌<◌, ◌≤◌, length, sym, ◌∙◌, arith, rules}
+use Rattle.std.proofs.Common.{sym, ap, ◌∙◌}
+use Rattle.plane.specs.Code.{along}
 use Rattle.plane.specs.Lists.{every}
-use Rattle.plane.specs.Code.{at}
-use Rattle.plane.specs.Edges.{edge}
-use Rattle.ground.specs.Rows.{near_corner, shape_of}
+use Rattle.plane.specs.Sights.{near_edge}
+use Rattle.ground.specs.Rows.{shape_of}
 use Rattle.ground.specs.Looks.{point}
-use Rattle.ground.proofs.Rows.{front, at_more}
-use Rattle.ground.proofs.Looks.{look_begins, look_goes_on, look_ends, stood, far_next, far_close, near_next, near_close, answers_far, answers_near, answers_empty}
+use Rattle.ground.specs.Walks.{edges_left}
+use Rattle.ground.proofs.Looks.{seen, seen_all, seen_more, stood, nothing, near_more, near_fails, ring_near, answers_far, answers_near}
 use Rattle.ground.proofs.looking.Look.around.Goals as goal
 
-pub returns-in_default : goal.returns-in_default
-returns-in_default c =
-    let row = c.args.row.now in
-    let few : length row < 2 = search rules in
-    answers_empty row c.args.point.a c.args.point.b c.args.point.w (omega arith) c.in_ok-viewer.ensures.0
-
-pub loop-rest-init : goal.loop-rest-init
-loop-rest-init c =
-    let row = c.args.row.now in
-    let h : 2 ≤ length row = search rules in
-    (look_begins (point c.args.point.a c.args.point.b c.args.point.w) row h, sym (at_more (every near_corner) row h))
+pub loop-edge-init : goal.loop-edge-init
+loop-edge-init c =
+    let p = point c.args.point.a c.args.point.b c.args.point.w in
+    let s = shape_of c.args.row.now in
+    let all = ap edges_left c.into_iter-edge-iterator.ensures.into_iter_gives ∙ c.of-edge-items.ensures in
+    (ap (seen p nothing) all ∙ seen_all p s, ap (every near_edge) all ∙ ring_near s)
 
 pub returns-in_err-look : goal.returns-in_err-look
 returns-in_err-look c =
-    let rest = c.loop-rest.rest.now in
-    let h : 2 ≤ length rest = search rules in
-    let far = far_next (at c.loop-rest.one) rest h c.in_err-look.ensures in
-    c.from_residual-in_err-look.ensures ∙ answers_far c.args.row.now c.args.point.a c.args.point.b c.args.point.w (sym c.loop-rest.invariant.1 ∙ far)
+    let far = near_fails (along c.in-Some.edge) _ _ c.in-Some.ensures.steps c.in_err-look.ensures in
+    c.from_residual-in_err-look.ensures ∙ answers_far c.args.row.now c.args.point.a c.args.point.b c.args.point.w (sym c.loop-edge.invariant.1 ∙ far)
 
-pub loop-rest-preserved : goal.loop-rest-preserved
-loop-rest-preserved c =
-    let rest = c.loop-rest.rest.now in
-    let h : 2 ≤ length rest = search rules in
+pub loop-edge-preserved : goal.loop-edge-preserved
+loop-edge-preserved c =
     let p = point c.args.point.a c.args.point.b c.args.point.w in
-    let last = at c.loop-rest.one in
+    let e = along c.in-Some.edge in
     let seen_so = c.in_ok-look.ensures in
-    let sight = stood c.in_ok-viewer.viewer c.args.point.a c.args.point.b c.args.point.w (edge last (front rest)) c.in_ok-look.field-0
-    c.in_ok-viewer.ensures.1 seen_so.1 in (
-      rw c.noted-look.ensures (look_goes_on p c.loop-rest.look (front c.args.row.now) last rest c.in_ok-look.field-0 h sight ∙ c.loop-rest.invariant.0),
-      near_next last rest h seen_so.0 ∙ c.loop-rest.invariant.1,
+    let sight = stood c.in_ok-viewer.viewer c.args.point.a c.args.point.b c.args.point.w e c.in_ok-look.field-0 c.in_ok-viewer.ensures.1 seen_so.1 in (
+      rw c.noted-look.ensures
+          (seen_more p c.loop-edge.look e (edges_left c.next.new.self) c.in_ok-look.field-0 sight ∙ ap (seen p c.loop-edge.look) (sym c.in-Some.ensures.steps) ∙ c.loop-edge.invariant.0),
+      near_more e _ _ c.in-Some.ensures.steps seen_so.0 ∙ c.loop-edge.invariant.1,
     )
 
-pub returns-in_err-look-2 : goal.returns-in_err-look-2
-returns-in_err-look-2 c =
-    let row = c.args.row.now in
-    let h : 2 ≤ length row = search rules in
-    let far = far_close (at c.loop-rest.one) row (shape_of c.loop-rest.rest.now) h c.loop-rest.invariant.1 c.in_err-look-2.ensures in
-    c.from_residual-in_err-look-2.ensures ∙ answers_far row c.args.point.a c.args.point.b c.args.point.w far
-
 pub returns : goal.returns
+unfolding every
 returns c =
-    let row = c.args.row.now in
-    let rest = c.loop-rest.rest.now in
-    let h : length rest < 2 = search rules in
-    let last = at c.loop-rest.one in
-    let seen_so = c.in_ok-look-2.ensures in
     let p = point c.args.point.a c.args.point.b c.args.point.w in
-    let sight = stood c.in_ok-viewer.viewer c.args.point.a c.args.point.b c.args.point.w (edge last (front row)) c.in_ok-look-2.field-0
-    c.in_ok-viewer.ensures.1 seen_so.1 in
-    answers_near row c.args.point.a c.args.point.b c.args.point.w c.noted.result c.requires c.in_ok-viewer.ensures.0 (sym c.loop-rest.invariant.1 ∙ near_close last (front row) rest h seen_so.0)
-    (c.noted.ensures ∙ look_ends p c.loop-rest.look (front row) last rest c.in_ok-look-2.field-0 h sight ∙ c.loop-rest.invariant.0)
+    let none = c.in-None.ensures.steps.0 in
+    answers_near c.args.row.now c.args.point.a c.args.point.b c.args.point.w c.loop-edge.look c.requires c.in_ok-viewer.ensures.0
+    (sym c.loop-edge.invariant.1 ∙ ap (every near_edge) none) (sym (ap (seen p c.loop-edge.look) none) ∙ c.loop-edge.invariant.0)
