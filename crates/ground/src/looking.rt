@@ -29,7 +29,8 @@ impl Look {
         Look::around(row, point)
     }
 
-    // The same for a row of whole corners: one edge after the other.
+    // The same for a row of whole corners: one edge after the other. Most grounds of a map are told by their boxes alone, and this is kept out of the way of that.
+    #[inline(never)]
     fn around(row: &[u64], point: Point) -> Option<Look>
         requires { length row.now % 2 ≡ 0 }
         ensures { result ≡ pick (look_fits row.now point.a point.b point.w) (Some (look_of (shape_of row.now) (point_at point.a point.b point.w))) None }
