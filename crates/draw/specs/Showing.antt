@@ -1,10 +1,9 @@
 -- What a square shows. Assumes nothing: these are definitions.
 use Rattle.std.specs.Prelude.{◌≡◌, ℕ, List, IfOk, Result}
 use Rattle.std.specs.declared.alloc.AllocError.{AllocError}
-use Rattle.map.specs.Asking.{Went}
+use Rattle.map.specs.Asking.{End, Went}
 use Rattle.map.specs.House.{at_point}
 use Rattle.map.specs.Promise.{said}
-use Rattle.map.specs.declared.asking.End.{End}
 use Rattle.raster.specs.Signs.{sign_of}
 use Rattle.terms.specs.declared.point.Point.{Point}
 

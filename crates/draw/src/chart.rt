@@ -1,12 +1,8 @@
 // The grounds that are drawn.
-ghost use Rattle.std.specs.Prelude.{◌≡◌};
-ghost use Rattle.map.specs.Asking.{event_said};
-ghost use Rattle.map.specs.House.{at_point};
-ghost use Rattle.map.specs.Promise.{said};
 ghost use Rattle.draw.specs.Showing.{SignTold};
 
 use ground::Extent;
-use map::{End, Machine, Request};
+use map::{AskError, Machine, Request};
 use raster::sign;
 use std::alloc::{AllocError, Global};
 use terms::Point;
@@ -19,13 +15,6 @@ pub struct Chart {
     shown: Vec<u64>,
 }
 
-fn which_have<'a>(point: Point) -> Request<'a>
-    ensures { event_said result ≡ said (at_point point.a point.b point.w) }
-{
-    let Point { a, b, w } = point;
-    Request::AtPoint { a, b, w }
-}
-
 impl Chart {
     pub(crate) fn new(heap: Global) -> Result<Chart, AllocError> {
         Ok(Chart {
@@ -35,18 +24,14 @@ impl Chart {
         })
     }
 
-    pub(crate) fn put(&mut self, number: u64, row: &[u64]) -> Result<End, AllocError> {
-        let end = self
-            .machine
+    pub(crate) fn put(&mut self, number: u64, row: &[u64]) -> Result<(), AskError> {
+        self.machine
             .ask(Request::Put { number, row }, &mut self.shown)?;
-        if let End::Done = end {
-            self.extent = match (self.extent, Extent::of(row)) {
-                (Some(all), Some(one)) => Some(all.together(one)),
-                (None, one) => one,
-                (all, None) => all,
-            };
-        }
-        Ok(end)
+        self.extent = match (self.extent, Extent::of(row)) {
+            (Some(all), Some(one)) => Some(all.together(one)),
+            (all, one) => all.or(one),
+        };
+        Ok(())
     }
 
     // The sign of what a point has.
@@ -54,7 +39,10 @@ impl Chart {
         ensures { SignTold point self.old.machine.memory.items self.new.machine.memory.items result }
     {
         self.shown.clear();
-        self.machine.ask(which_have(point), &mut self.shown)?;
-        Ok(sign(self.shown.as_slice()))
+        match self.machine.ask(Request::AtPoint(point), &mut self.shown) {
+            Err(AskError::OutOfMemory) => Err(AllocError),
+            // What is refused shows nothing.
+            Ok(()) | Err(AskError::Refused(_)) => Ok(sign(self.shown.as_slice())),
+        }
     }
 }

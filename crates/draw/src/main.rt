@@ -23,20 +23,15 @@ use std::process::ExitCode;
 // The window that was asked for, or the one that shows all grounds. A register without grounds has no picture.
 fn window_of(order: &Order, chart: &Chart) -> Option<Window> {
     let extent = chart.extent?;
-    match order.window {
-        Some(window) => Some(window),
-        None => Some(fit(extent)),
-    }
+    Some(order.window.unwrap_or_else(|| fit(extent)))
 }
 
 fn run(rt: &HostRuntime) -> Result<(), Problem> {
     let order = Order::given(rt)?;
     let mut chart = Chart::new(rt.alloc())?;
     read_register(rt, order.file.as_str(), &mut chart)?;
-    match window_of(&order, &chart) {
-        Some(window) => paint(rt, &mut chart, window),
-        None => Err(Problem::NoGrounds(order.file)),
-    }
+    let window = window_of(&order, &chart).ok_or(Problem::NoGrounds(order.file))?;
+    paint(rt, &mut chart, window)
 }
 
 fn main(rt: HostRuntime) -> ExitCode {

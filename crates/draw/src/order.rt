@@ -12,10 +12,8 @@ pub struct Order {
 }
 
 fn whole(heap: Global, word: &str) -> Result<u64, Problem> {
-    match word.parse::<u64>() {
-        Ok(number) => Ok(number),
-        Err(_) => Err(Problem::NoNumber(String::from_str(heap, word)?)),
-    }
+    word.parse::<u64>()
+        .try_map_err(|_| Ok(Problem::NoNumber(String::from_str(heap, word)?)))
 }
 
 // How many squares: a number that does not fit is too large for any picture.
@@ -24,33 +22,26 @@ fn count(heap: Global, word: &str) -> Result<u32, Problem> {
 }
 
 fn window(heap: Global, words: &[String]) -> Result<Option<Window>, Problem> {
-    let [x, y, step, columns, rows] = words else {
-        return if words.is_empty() {
-            Ok(None)
-        } else {
-            Err(Problem::Usage)
-        };
-    };
-    let window = Window {
-        x: whole(heap, x.as_str())?,
-        y: whole(heap, y.as_str())?,
-        step: whole(heap, step.as_str())?,
-        columns: count(heap, columns.as_str())?,
-        rows: count(heap, rows.as_str())?,
-    };
-    match window.checked() {
-        Ok(window) => Ok(Some(window)),
-        Err(flaw) => Err(Problem::BadWindow(flaw)),
+    match words {
+        [] => Ok(None),
+        [x, y, step, columns, rows] => {
+            let window = Window {
+                x: whole(heap, x.as_str())?,
+                y: whole(heap, y.as_str())?,
+                step: whole(heap, step.as_str())?,
+                columns: count(heap, columns.as_str())?,
+                rows: count(heap, rows.as_str())?,
+            };
+            Ok(Some(window.checked().map_err(Problem::BadWindow)?))
+        }
+        _ => Err(Problem::Usage),
     }
 }
 
 impl Order {
     pub(crate) fn given(rt: &HostRuntime) -> Result<Order, Problem> {
         let heap = rt.alloc();
-        let mut words = Vec::new(heap);
-        for word in env::args(rt)?.skip(1) {
-            words.push(word)?;
-        }
+        let words: Vec<String> = env::args(rt)?.skip(1).collect(heap)?;
         let [file, rest @ ..] = words.as_slice() else {
             return Err(Problem::Usage);
         };

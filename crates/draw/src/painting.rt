@@ -13,14 +13,11 @@ const ROWS_BETWEEN: u32 = 64;
 
 // The signs of a row, from the west.
 fn signs(heap: Global, chart: &mut Chart, window: Window, row: u32) -> Result<Vec<u8>, AllocError> {
-    let mut signs = Vec::new(heap);
-    for column in 0..window.columns {
-        // Each square of a window that is drawn has a middle that can be asked for: every_square_is_asked, fitted_is_drawn.
-        if let Some(middle) = window.middle(column, row) {
-            signs.push(chart.sign_at(middle)?)?;
-        }
-    }
-    Ok(signs)
+    // Each square of a window that is drawn has a middle that can be asked for: every_square_is_asked, fitted_is_drawn.
+    (0..window.columns)
+        .filter_map(|column| window.middle(column, row))
+        .map(|middle| chart.sign_at(middle))
+        .try_collect(heap)
 }
 
 fn tell_progress(rt: &HostRuntime, window: Window, drawn: u32) -> io::Result<()> {
