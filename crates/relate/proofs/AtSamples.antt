@@ -1,33 +1,25 @@
 -- The parities of a ring at the samples of an edge: after its first corner, and after each corner of the ring that lies on it.
-use Rattle.std.proofs.Common.{◌≡◌, ℕ, ◌<◌, ◌≤◌, Bool, true, false, not, ◌&&◌, eqb, ltb, leb, List, ◌∷◌, length, sym, ap, ◌∙◌, ⊎_elim, arith}
+use Rattle.std.proofs.Common.{◌≡◌, ℕ, Bool, true, false, not, ◌&&◌, eqb, ltb, leb, [], ◌∷◌, sym, refl, ap, ◌∙◌, ⊎_elim, arith}
 use Rattle.std.proofs.lemmas.Bool.Decides.{nat_tests}
 use Rattle.std.proofs.lemmas.Bool.{and_from, and_left, and_right, cases_Bool, not_from_false}
 use Rattle.plane.specs.Lists.{or, any}
 use Rattle.plane.specs.Corners.{Corner, same_corner, between}
 use Rattle.plane.specs.Edges.{Edge, on_edge}
-use Rattle.plane.specs.Parity.{xor}
-use Rattle.plane.proofs.Booleans.{or_assoc, or_false_right, and_true_right, not_not}
+use Rattle.plane.specs.Parity.{xor, xors}
+use Rattle.plane.proofs.Booleans.{or_assoc, or_false_right, not_not}
 use Rattle.plane.proofs.Lists.{any_false_from, any_same}
 use Rattle.plane.proofs.Crossings.{one_on}
 use Rattle.plane.proofs.Sides.{on_edge_parts}
-use Rattle.ground.specs.Shapes.{Shape}
-use Rattle.ground.specs.Rows.{shape_of}
-use Rattle.ground.specs.Boxes.{box_of}
+use Rattle.ground.specs.Shapes.{Shape, edges}
 use Rattle.ground.proofs.Clearance.{one_corner}
-use Rattle.ground.proofs.Rows.{front, beyond, at_more, at_none}
 use Rattle.relate.specs.Samples.{raw, starts, sample}
 use Rattle.relate.specs.Finding.{misses}
+use Rattle.relate.specs.Fitting.{bounds_of}
 use Rattle.relate.specs.Siding.{has_parity, parities_of, later_parity, parities_later, both_parities, goes_on_at}
 use Rattle.relate.specs.declared.parities.Parities.{Parities}
 use Rattle.relate.proofs.Outside.{missed_raw}
 
 -- WHERE AN EDGE GOES ON: at each height but that of its end, on its way
-pub starts_on : (e : Edge) (u : Corner) → goes_on_at e u.y ≡ true → on_edge e u ≡ starts e u
-starts_on e u h = sym (ap (◌&&◌ (on_edge e u)) (before_end e.one.y e.other.y u.y h) ∙ and_true_right (on_edge e u))
-  where
-    before_end : (a b y : ℕ) → or (leb a y && ltb y b) (ltb b y && leb y a) ≡ true → not (eqb y b) ≡ true
-    before_end a b y k = grind (arith, nat_tests)
-
 pub starts_off : (e : Edge) (u : Corner) → goes_on_at e u.y ≡ false → false ≡ starts e u
 starts_off e u h =
     sym
@@ -59,28 +51,11 @@ module _ (t : Shape) (e : Edge) (u : Corner) where
   shown : (j b : Bool) → b ≡ raw t (sample e u) → starts e u ≡ true → not (xor j b) ≡ has_parity t j e u
   shown j b is h = ap (λ v. not (xor j v)) is ∙ sym (ap (λ v. v && not (xor j (raw t (sample e u)))) h)
 
-  pub later_on : (b : Bool) (p : Parities) → goes_on_at e u.y ≡ true → on_edge e u ≡ true → same_corner e.one u ≡ false → b ≡ raw t (sample e u) → p ≡ one_parity b → p ≡ parities_later t e u
-  later_on b p goes on k is made =
-      let h : starts e u ≡ true = sym (starts_on e u goes) ∙ on in
-      made ∙ same_parities (one_parity b) (parities_later t e u) (sym (not_not b) ∙ shown true b is h ∙ behind (has_parity t true e u)) (shown false b is h ∙ behind (has_parity t false e u))
-    where
-      behind : (v : Bool) → v ≡ (not (same_corner e.one u) && v)
-      behind v = sym (ap (λ x. not x && v) k)
-
   pub later_off : starts e u ≡ false → no_parity ≡ parities_later t e u
   later_off h = same_parities no_parity (parities_later t e u) (none true) (none false)
     where
       none : (j : Bool) → false ≡ later_parity t j e u
       none j = sym (and_right (not (same_corner e.one u)) _ (and_left (starts e u) _ h))
-
-  pub later_aside : goes_on_at e u.y ≡ true → on_edge e u ≡ false → no_parity ≡ parities_later t e u
-  later_aside h off = later_off (sym (starts_on e u h) ∙ off)
-
-  pub later_first : same_corner e.one u ≡ true → no_parity ≡ parities_later t e u
-  later_first h = same_parities no_parity (parities_later t e u) (none true) (none false)
-    where
-      none : (j : Bool) → false ≡ later_parity t j e u
-      none j = sym (ap (λ x. not x && has_parity t j e u) h)
 
 -- SEVERAL SAMPLES: after each of some corners that are not the edge's first
 abbrev pub parities_in : Shape → Edge → Shape → Parities
@@ -112,40 +87,43 @@ parities_begin t e b p slants is made =
     on : starts e e.one ≡ true
     on = and_from (on_edge e e.one) _ (one_on e) (not_from_false _ slants)
 
-pub parities_go_on : (t : Shape) (e : Edge) (p q r : Parities) (rest : List ℕ) → 2 ≤ length rest → q ≡ both_parities p r → r ≡ parities_later t e (front rest) →
-    both_parities q (parities_in t e (shape_of (beyond rest))) ≡ both_parities p (parities_in t e (shape_of rest))
+pub parities_go_on : (t : Shape) (e : Edge) (p q : Parities) (u : Corner) (us : Shape) → q ≡ both_parities p (parities_later t e u) →
+    both_parities q (parities_in t e us) ≡ both_parities p (parities_in t e (u ∷ us))
 unfolding any
-parities_go_on t e p q r rest h is at_front =
-    ap (λ v. both_parities v (parities_in t e (shape_of (beyond rest)))) (is ∙ ap (both_parities p) at_front)
-    ∙ parities_assoc p (parities_later t e (front rest)) (parities_in t e (shape_of (beyond rest)))
-    ∙ sym (at_more (λ us. both_parities p (parities_in t e us)) rest h)
+parities_go_on t e p q u us is =
+    ap (λ v. both_parities v (parities_in t e us)) is ∙ parities_assoc p (parities_later t e u) (parities_in t e us)
+
+no_more : (p : Parities) → both_parities p no_parity ≡ p
+no_more p = same_parities (both_parities p no_parity) p (or_false_right p.odd) (or_false_right p.even)
 
 -- a corner at a height where the edge does not go on is passed over
-pub parities_skip : (t : Shape) (e : Edge) (p : Parities) (rest : List ℕ) → 2 ≤ length rest → goes_on_at e (front rest).y ≡ false →
-    both_parities p (parities_in t e (shape_of (beyond rest))) ≡ both_parities p (parities_in t e (shape_of rest))
-parities_skip t e p rest h off =
-    parities_go_on t e p p no_parity rest h (sym (same_parities (both_parities p no_parity) p (or_false_right p.odd) (or_false_right p.even)))
-    (later_off t e (front rest) (sym (starts_off e (front rest) off)))
+pub parities_skip : (t : Shape) (e : Edge) (p : Parities) (u : Corner) (us : Shape) → goes_on_at e u.y ≡ false →
+    both_parities p (parities_in t e us) ≡ both_parities p (parities_in t e (u ∷ us))
+parities_skip t e p u us off =
+    parities_go_on t e p p u us (sym (no_more p) ∙ ap (both_parities p) (later_off t e u (sym (starts_off e u off))))
 
-pub parities_end : (t : Shape) (e : Edge) (p : Parities) (rest : List ℕ) → length rest < 2 → p ≡ both_parities p (parities_in t e (shape_of rest))
+pub parities_end : (t : Shape) (e : Edge) (p : Parities) → p ≡ both_parities p (parities_in t e [])
 unfolding any
-parities_end t e p rest h =
-    sym
-    (at_none (λ us. both_parities p (parities_in t e us)) rest h
-    ∙ same_parities (both_parities p no_parity) p (or_false_right p.odd) (or_false_right p.even))
+parities_end t e p = sym (no_more p)
 
--- AN EDGE OUTSIDE THE BOX, not level: after its first corner all is even, and no other corner lies on it
-module _ (t : Shape) (e : Edge) (outside : misses (box_of t) e ≡ true) where
+-- AN EDGE OUTSIDE THE BOX has only even samples
+raw_missed : (t : Shape) (e : Edge) → misses (bounds_of t) e ≡ true → (u : Corner) → on_edge e u ≡ true → raw t (sample e u) ≡ false
+unfolding edges xors
+raw_missed [] e out u on = refl
+raw_missed (c ∷ cs) e out u on = missed_raw (c ∷ cs) e out u on
+
+-- if it is not level, after its first corner all is even, and no other corner lies on it
+module _ (t : Shape) (e : Edge) (outside : misses (bounds_of t) e ≡ true) where
   never_odd : (u : Corner) → has_parity t true e u ≡ false
   never_odd u = ⊎_elim (λ on. and_right (starts e u) _ (even on)) (λ off. and_left (starts e u) _ (and_left (on_edge e u) _ off)) (cases_Bool (on_edge e u))
     where
       even : on_edge e u ≡ true → not (xor true (raw t (sample e u))) ≡ false
-      even on = ap (λ b. not (xor true b)) (missed_raw t e outside u on)
+      even on = ap (λ b. not (xor true b)) (raw_missed t e outside u on)
 
   first_even : eqb e.one.y e.other.y ≡ false → has_parity t false e e.one ≡ true
   first_even slants =
       and_from (starts e e.one) _ (and_from (on_edge e e.one) _ (one_on e) (not_from_false _ slants))
-      (ap (λ b. not (xor false b)) (missed_raw t e outside e.one (one_on e)))
+      (ap (λ b. not (xor false b)) (raw_missed t e outside e.one (one_on e)))
 
   pub parities_outside : eqb e.one.y e.other.y ≡ false → record { odd = false; even = true } ≡ parities_of t e
   unfolding any

@@ -1,23 +1,21 @@
 -- What lies beside the edges of a ring: an edge's direction tells its own ring, the parities at its samples the other.
-use Rattle.std.proofs.Common.{◌≡◌, ℕ, ◌<◌, ◌≤◌, Bool, true, false, not, ◌&&◌, List, [], ◌∷◌, length, sym, refl, ap, ◌∙◌, arith}
+use Rattle.std.proofs.Common.{◌≡◌, ◌<◌, Bool, true, false, not, ◌&&◌, List, [], ◌∷◌, sym, refl, ap, ◌∙◌, arith}
 use Rattle.std.proofs.lemmas.Bool.Decides.{nat_tests}
 use Rattle.std.proofs.lemmas.Bool.{and_parts, and_left, and_right}
 use Rattle.plane.specs.Lists.{or, any}
-use Rattle.plane.specs.Corners.{Corner}
-use Rattle.plane.specs.Edges.{Edge, edge}
+use Rattle.plane.specs.Edges.{Edge}
 use Rattle.plane.specs.Orientation.{upward}
 use Rattle.plane.specs.Parity.{xor}
-use Rattle.plane.proofs.Booleans.{or_assoc, or_false_right}
+use Rattle.plane.proofs.Booleans.{or_assoc, or_comm, or_false_right}
 use Rattle.plane.proofs.Lists.{any_same, any_false_from}
-use Rattle.ground.specs.Shapes.{Shape, edges_from}
-use Rattle.ground.specs.Rows.{shape_of}
-use Rattle.ground.proofs.Rows.{front, beyond}
+use Rattle.ground.specs.Shapes.{Shape}
 use Rattle.relate.specs.Samples.{raw, starts, sample}
 use Rattle.relate.specs.Finding.{found_at, found_along}
 use Rattle.relate.specs.Siding.{has_parity, parities_of, beside, sides_of, sides_along, both_sides, all_seen}
 use Rattle.relate.specs.declared.sides.Sides.{Sides}
 use Rattle.relate.proofs.AtSamples.{level_starts}
-use Rattle.relate.proofs.Rounds.{goes_on, ends, round_begins, round_none}
+use Rattle.relate.specs.Rings.{edges_round}
+use Rattle.relate.proofs.Rounds.{goes_on, round}
 
 -- THE DIRECTION OF AN EDGE tells which parity its own ring has beside it
 module _ (t : Shape) (e : Edge) where
@@ -93,6 +91,9 @@ sides_assoc p q r =
     let o = or_assoc p.other q.other r.other in
     cc
 
+sides_comm : (p q : Sides) → both_sides p q ≡ both_sides q p
+sides_comm p q = same_sides (both_sides p q) (both_sides q p) (or_comm p.both q.both) (or_comm p.own q.own) (or_comm p.other q.other)
+
 -- beside the edges that are left
 abbrev pub sides_in : Shape → List Edge → Sides
 sides_in t es = record { both = any (beside t true true) es; own = any (beside t true false) es; other = any (beside t false true) es }
@@ -102,29 +103,16 @@ module _ (t : Shape) where
   unfolding any
   more e es = refl
 
-  last : (p : Sides) → both_sides p (sides_in t []) ≡ p
+  pub sides_begin : (p : Sides) (s : Shape) → both_sides p (sides_in t (edges_round s)) ≡ both_sides p (sides_along s t)
+  unfolding found_along
+  sides_begin p s = ap (both_sides p) (round both_sides sides_assoc (sides_of t) (sides_in t) more sides_comm s)
+
+  pub sides_go_on : (p q : Sides) (e : Edge) (es : List Edge) → q ≡ both_sides p (sides_of t e) → both_sides q (sides_in t es) ≡ both_sides p (sides_in t (e ∷ es))
+  sides_go_on p q e es is = ap (λ r. both_sides r (sides_in t es)) is ∙ goes_on both_sides sides_assoc (sides_of t) (sides_in t) more p e es
+
+  pub sides_stop : (p q : Sides) (e : Edge) (es : List Edge) → q ≡ both_sides p (sides_of t e) → all_seen q ≡ true → q ≡ both_sides p (sides_in t (e ∷ es))
+  sides_stop p q e es is all = all_known q _ all ∙ sides_go_on p q e es is
+
+  pub sides_end : (p : Sides) → p ≡ both_sides p (sides_in t [])
   unfolding any
-  last p = sides_none p
-
-  pub sides_go_on : (p q : Sides) (s a : Corner) (rest : List ℕ) → 2 ≤ length rest → q ≡ both_sides p (sides_of t (edge a (front rest))) →
-      both_sides q (sides_in t (edges_from s (front rest) (shape_of (beyond rest)))) ≡ both_sides p (sides_in t (edges_from s a (shape_of rest)))
-  sides_go_on p q s a rest h e =
-      ap (λ r. both_sides r (sides_in t (edges_from s (front rest) (shape_of (beyond rest))))) e
-      ∙ goes_on both_sides sides_assoc (sides_of t) (sides_in t) more last p s a rest h
-
-  pub sides_end : (p : Sides) (s a : Corner) (rest : List ℕ) → length rest < 2 →
-      both_sides p (sides_of t (edge a s)) ≡ both_sides p (sides_in t (edges_from s a (shape_of rest)))
-  sides_end = ends both_sides sides_assoc (sides_of t) (sides_in t) more last
-
-  pub sides_stop : (p q : Sides) (s a : Corner) (rest : List ℕ) → 2 ≤ length rest → q ≡ both_sides p (sides_of t (edge a (front rest))) →
-      all_seen q ≡ true → q ≡ both_sides p (sides_in t (edges_from s a (shape_of rest)))
-  sides_stop p q s a rest h e all = all_known q _ all ∙ sides_go_on p q s a rest h e
-
-  pub sides_begin : (p : Sides) (ring : List ℕ) → 2 ≤ length ring →
-      both_sides p (sides_in t (edges_from (front ring) (front ring) (shape_of (beyond ring)))) ≡ both_sides p (sides_along (shape_of ring) t)
-  unfolding found_along
-  sides_begin p ring h = round_begins (λ es. both_sides p (sides_in t es)) ring h
-
-  pub sides_empty : (p : Sides) (ring : List ℕ) → length ring < 2 → p ≡ both_sides p (sides_along (shape_of ring) t)
-  unfolding found_along
-  sides_empty p ring h = sym (last p) ∙ round_none (λ es. both_sides p (sides_in t es)) ring h
+  sides_end p = sym (sides_none p)

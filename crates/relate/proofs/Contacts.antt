@@ -1,24 +1,24 @@
 -- Contacts add up: of several edges the closest contact counts.
-use Rattle.std.proofs.Common.{◌≡◌, ℕ, ◌<◌, ◌≤◌, Bool, true, false, not, ◌&&◌, ltb, ◌⊎◌, List, [], ◌∷◌, length, sym, refl, ap, ◌∙◌, inl, inr, ⊎_elim, arith}
+use Rattle.std.proofs.Common.{◌≡◌, ℕ, Bool, true, false, not, ◌&&◌, ltb, ◌⊎◌, List, [], ◌∷◌, sym, refl, ap, ◌∙◌, inl, inr, ⊎_elim, arith}
 use Rattle.std.proofs.lemmas.Bool.Decides.{nat_tests}
-use Rattle.std.proofs.lemmas.Bool.{false≢true, and_left, and_right}
+use Rattle.std.proofs.lemmas.Bool.{and_left, and_right}
+use Rattle.std.specs.Ordering.{ord_max}
 use Rattle.plane.specs.Lists.{or, any}
 use Rattle.plane.specs.Corners.{Corner, same_corner, left_turn, right_turn}
-use Rattle.plane.specs.Edges.{Edge, edge, cross_over, meet}
-use Rattle.ground.specs.Shapes.{Shape, edges, edges_from}
-use Rattle.ground.specs.Rows.{shape_of}
-use Rattle.ground.specs.Boxes.{box_of}
-use Rattle.ground.specs.declared.bounding.Extent.{Extent}
+use Rattle.plane.specs.Edges.{Edge, cross_over, meet}
+use Rattle.ground.specs.Shapes.{Shape, edges}
 use Rattle.ground.proofs.Clearance.{one_corner}
-use Rattle.ground.proofs.Rows.{front, beyond}
 use Rattle.plane.specs.Extents.{ranges_meet}
 use Rattle.plane.proofs.Booleans.{false_from_not, or_parts, or_from, or_cases}
 use Rattle.plane.proofs.Extents.{apart_unmet}
+use Rattle.relate.specs.contracts.contact.ContactOrd.TheImpl.{cmp-value}
 use Rattle.relate.specs.declared.contact.Contact.{Contact}
 use Rattle.relate.specs.declared.contact.Contact.TheVariants.{Crossing, Meeting, Clear}
-use Rattle.relate.specs.Contacts.{contact, joined, is_crossing, shares_corner}
+use Rattle.relate.specs.Contacts.{contact, joined, shares_corner}
 use Rattle.relate.specs.Finding.{misses}
-use Rattle.relate.proofs.Rounds.{goes_on, ends, round_none}
+use Rattle.relate.specs.Fitting.{bounds_of}
+use Rattle.relate.specs.Rings.{edges_round}
+use Rattle.relate.proofs.Rounds.{goes_on, round}
 use Rattle.relate.proofs.Outside.{missed_cross, missed_meet}
 
 contact_or : (a b c d : Bool) → contact (or a b) (or c d) ≡ joined (contact a c) (contact b d)
@@ -42,11 +42,32 @@ joined_clear Crossing = refl
 joined_clear Meeting = refl
 joined_clear Clear = refl
 
+joined_comm : (a b : Contact) → joined a b ≡ joined b a
+joined_comm Crossing Crossing = refl
+joined_comm Crossing Meeting = refl
+joined_comm Crossing Clear = refl
+joined_comm Meeting Crossing = refl
+joined_comm Meeting Meeting = refl
+joined_comm Meeting Clear = refl
+joined_comm Clear Crossing = refl
+joined_comm Clear Meeting = refl
+joined_comm Clear Clear = refl
+
+-- the greater of two contacts is the closer one
+pub max_joined : (a b : Contact) → ord_max cmp-value.it a b ≡ joined a b
+max_joined Crossing Crossing = refl
+max_joined Crossing Meeting = refl
+max_joined Crossing Clear = refl
+max_joined Meeting Crossing = refl
+max_joined Meeting Meeting = refl
+max_joined Meeting Clear = refl
+max_joined Clear Crossing = refl
+max_joined Clear Meeting = refl
+max_joined Clear Clear = refl
+
 -- a crossing settles it
-crossing_settles : (k m : Contact) → is_crossing k ≡ true → k ≡ joined k m
-crossing_settles Crossing m h = refl
-crossing_settles Meeting m h = absurd (false≢true h)
-crossing_settles Clear m h = absurd (false≢true h)
+crossing_settles : (k m : Contact) → k ≡ Crossing → k ≡ joined k m
+crossing_settles k m h = h ∙ sym (ap (λ j. joined j m) h)
 
 -- the contact with edges of which f says that they are crossed over, and g that they are met
 abbrev pub contact_of : (f g : Edge → Bool) → List Edge → Contact
@@ -57,40 +78,32 @@ module _ (f g : Edge → Bool) where
   unfolding any
   more e es = contact_or (f e) (any f es) (g e) (any g es)
 
-  last : (k : Contact) → joined k (contact_of f g []) ≡ k
-  unfolding any
-  last k = joined_clear k
+  pub contact_begins : (s : Shape) → joined Clear (contact_of f g (edges_round s)) ≡ contact_of f g (edges s)
+  contact_begins = round joined joined_assoc (λ e. contact (f e) (g e)) (contact_of f g) more joined_comm
 
-  pub contact_goes_on : (k j : Contact) (s a : Corner) (rest : List ℕ) → 2 ≤ length rest → j ≡ joined k (contact (f (edge a (front rest))) (g (edge a (front rest)))) →
-      joined j (contact_of f g (edges_from s (front rest) (shape_of (beyond rest)))) ≡ joined k (contact_of f g (edges_from s a (shape_of rest)))
-  contact_goes_on k j s a rest h e =
-      ap (λ i. joined i (contact_of f g (edges_from s (front rest) (shape_of (beyond rest))))) e
-      ∙ goes_on joined joined_assoc (λ d. contact (f d) (g d)) (contact_of f g) more last k s a rest h
+  pub contact_goes_on : (k j : Contact) (e : Edge) (es : List Edge) → j ≡ joined k (contact (f e) (g e)) →
+      joined j (contact_of f g es) ≡ joined k (contact_of f g (e ∷ es))
+  contact_goes_on k j e es is =
+      ap (λ i. joined i (contact_of f g es)) is ∙ goes_on joined joined_assoc (λ d. contact (f d) (g d)) (contact_of f g) more k e es
 
   -- an edge that is neither crossed over nor met changes nothing
-  pub contact_skips : (k : Contact) (s a : Corner) (rest : List ℕ) → 2 ≤ length rest → (f (edge a (front rest)) ≡ false) × (g (edge a (front rest)) ≡ false) →
-      joined k (contact_of f g (edges_from s (front rest) (shape_of (beyond rest)))) ≡ joined k (contact_of f g (edges_from s a (shape_of rest)))
-  contact_skips k s a rest h (uncrossed, unmet) =
-      contact_goes_on k k s a rest h
-      (sym (ap (λ x. joined k (contact x (g (edge a (front rest))))) uncrossed ∙ ap (λ x. joined k (contact false x)) unmet ∙ joined_clear k))
+  pub contact_skips : (k : Contact) (e : Edge) (es : List Edge) → (f e ≡ false) × (g e ≡ false) → joined k (contact_of f g es) ≡ joined k (contact_of f g (e ∷ es))
+  contact_skips k e es (uncrossed, unmet) =
+      contact_goes_on k k e es (sym (ap (λ x. joined k (contact x (g e))) uncrossed ∙ ap (λ x. joined k (contact false x)) unmet ∙ joined_clear k))
 
-  pub contact_stops : (k j : Contact) (s a : Corner) (rest : List ℕ) → 2 ≤ length rest → j ≡ joined k (contact (f (edge a (front rest))) (g (edge a (front rest)))) →
-      is_crossing j ≡ true → j ≡ joined k (contact_of f g (edges_from s a (shape_of rest)))
-  contact_stops k j s a rest h e crossed = crossing_settles j _ crossed ∙ contact_goes_on k j s a rest h e
+  pub contact_stops : (k j : Contact) (e : Edge) (es : List Edge) → j ≡ joined k (contact (f e) (g e)) → j ≡ Crossing → j ≡ joined k (contact_of f g (e ∷ es))
+  contact_stops k j e es is crossed = crossing_settles j _ crossed ∙ contact_goes_on k j e es is
 
-  pub contact_ends : (k : Contact) (s a : Corner) (rest : List ℕ) → length rest < 2 →
-      joined k (contact (f (edge a s)) (g (edge a s))) ≡ joined k (contact_of f g (edges_from s a (shape_of rest)))
-  contact_ends = ends joined joined_assoc (λ e. contact (f e) (g e)) (contact_of f g) more last
-
-  pub contact_none : (row : List ℕ) → length row < 2 → Clear ≡ contact_of f g (edges (shape_of row))
+  pub contact_ends : (k : Contact) → k ≡ joined k (contact_of f g [])
   unfolding any
-  contact_none row h = round_none (contact_of f g) row h
+  contact_ends k = sym (joined_clear k)
 
 -- an edge outside the box of a ring has no contact with it
-pub contact_missed : (t : Shape) (e : Edge) (b : Extent) → b ≡ box_of t → misses b e ≡ true → Clear ≡ contact_of (cross_over e) (meet e) (edges t)
-contact_missed t e b is outside =
-    let out : misses (box_of t) e ≡ true = ap (λ k. misses k e) (sym is) ∙ outside in
-    sym (ap (λ x. contact x (any (meet e) (edges t))) (missed_cross t e out) ∙ ap (contact false) (missed_meet t e out))
+pub contact_missed : (t : Shape) (e : Edge) → misses (bounds_of t) e ≡ true → Clear ≡ contact_of (cross_over e) (meet e) (edges t)
+unfolding edges any
+contact_missed [] e out = refl
+contact_missed (c ∷ cs) e out =
+    sym (ap (λ x. contact x (any (meet e) (edges (c ∷ cs)))) (missed_cross (c ∷ cs) e out) ∙ ap (contact false) (missed_meet (c ∷ cs) e out))
 
 -- edges at other heights do not meet
 pub level_apart : (e f : Edge) → not (ranges_meet e.one.y e.other.y f.one.y f.other.y) ≡ true → (cross_over e f ≡ false) × (meet e f ≡ false)

@@ -1,19 +1,18 @@
 -- Crossings counted edge by edge: those that do not reach over the point's height are not crossed.
-use Rattle.std.proofs.Common.{◌≡◌, ℕ, ◌*◌, ◌<◌, ◌≤◌, Bool, false, ◌&&◌, ltb, leb, List, [], ◌∷◌, length, sym, refl, ap, ◌∙◌, arith}
+use Rattle.std.proofs.Common.{◌≡◌, ℕ, ◌*◌, Bool, true, false, not, ◌&&◌, ltb, leb, List, [], ◌∷◌, sym, refl, ap, ◌∙◌, arith}
 use Rattle.std.proofs.lemmas.Bool.Decides.{nat_tests}
 use Rattle.plane.specs.Lists.{or}
 use Rattle.plane.specs.Corners.{Corner, corner}
-use Rattle.plane.specs.Edges.{Edge, edge, grown_edge}
+use Rattle.plane.specs.Edges.{Edge, grown_edge}
 use Rattle.plane.specs.Levels.{Floors}
 use Rattle.plane.specs.Parity.{xor, xors, crosses}
 use Rattle.plane.specs.Sights.{StandsAt, place}
 use Rattle.plane.specs.declared.viewer.Viewer.{Viewer}
-use Rattle.plane.proofs.Booleans.{xor_assoc, xor_false_right, same_from_xor}
+use Rattle.plane.proofs.Booleans.{xor_assoc, xor_comm, xor_false_right, same_from_xor}
 use Rattle.plane.proofs.Views.{floor_tells}
-use Rattle.ground.specs.Shapes.{edges, edges_from}
-use Rattle.ground.specs.Rows.{shape_of}
-use Rattle.ground.proofs.Rows.{front, beyond}
-use Rattle.relate.proofs.Rounds.{goes_on, ends, round_none}
+use Rattle.ground.specs.Shapes.{Shape, edges}
+use Rattle.relate.specs.Rings.{edges_round}
+use Rattle.relate.proofs.Rounds.{goes_on, round}
 
 -- AN EDGE with both ends above the point's height, or both not above it
 pub unreached : (w floor : ℕ) (e : Edge) (c : Corner) → Floors c.y w floor → xor (ltb floor e.one.y) (ltb floor e.other.y) ≡ false →
@@ -38,23 +37,23 @@ module _ (f : Edge → Bool) where
   unfolding xors
   more e es = refl
 
-  last : (o : Bool) → xor o (xors f []) ≡ o
+  pub count_begins : (s : Shape) → xor false (xors f (edges_round s)) ≡ xors f (edges s)
+  count_begins = round xor xor_assoc f (xors f) more xor_comm
+
+  pub count_goes_on : (o q : Bool) (e : Edge) (es : List Edge) → q ≡ xor o (f e) → xor q (xors f es) ≡ xor o (xors f (e ∷ es))
+  count_goes_on o q e es is = ap (λ v. xor v (xors f es)) is ∙ goes_on xor xor_assoc f (xors f) more o e es
+
+  pub count_skips : (o : Bool) (e : Edge) (es : List Edge) → f e ≡ false → xor o (xors f es) ≡ xor o (xors f (e ∷ es))
+  count_skips o e es none = count_goes_on o o e es (sym (ap (xor o) none ∙ xor_false_right o))
+
+  -- a crossed edge turns the count
+  pub count_turns : (o : Bool) (e : Edge) (es : List Edge) → f e ≡ true → xor (not o) (xors f es) ≡ xor o (xors f (e ∷ es))
+  count_turns o e es crossed = count_goes_on o (not o) e es (turned o ∙ ap (xor o) (sym crossed))
+    where
+      turned : (b : Bool) → not b ≡ xor b true
+      turned true = refl
+      turned false = refl
+
+  pub count_ends : (o : Bool) → o ≡ xor o (xors f [])
   unfolding xors
-  last o = xor_false_right o
-
-  pub count_goes_on : (o q b : Bool) (s a : Corner) (rest : List ℕ) → 2 ≤ length rest → q ≡ xor o b → b ≡ f (edge a (front rest)) →
-      xor q (xors f (edges_from s (front rest) (shape_of (beyond rest)))) ≡ xor o (xors f (edges_from s a (shape_of rest)))
-  count_goes_on o q b s a rest h is told =
-      ap (λ v. xor v (xors f (edges_from s (front rest) (shape_of (beyond rest))))) (is ∙ ap (xor o) told) ∙ goes_on xor xor_assoc f (xors f) more last o s a rest h
-
-  pub count_skips : (o : Bool) (s a : Corner) (rest : List ℕ) → 2 ≤ length rest → f (edge a (front rest)) ≡ false →
-      xor o (xors f (edges_from s (front rest) (shape_of (beyond rest)))) ≡ xor o (xors f (edges_from s a (shape_of rest)))
-  count_skips o s a rest h none = count_goes_on o o false s a rest h (sym (xor_false_right o)) (sym none)
-
-  pub count_ends : (o q b : Bool) (s a : Corner) (rest : List ℕ) → length rest < 2 → q ≡ xor o b → b ≡ f (edge a s) →
-      q ≡ xor o (xors f (edges_from s a (shape_of rest)))
-  count_ends o q b s a rest h is told = is ∙ ap (xor o) told ∙ ends xor xor_assoc f (xors f) more last o s a rest h
-
-  pub count_none : (row : List ℕ) → length row < 2 → false ≡ xors f (edges (shape_of row))
-  unfolding xors
-  count_none row h = round_none (xors f) row h
+  count_ends o = sym (xor_false_right o)

@@ -1,23 +1,22 @@
 -- The answer: contacts and sides tell the way, and boxes apart tell that two are apart.
-use Rattle.std.proofs.Common.{◌≡◌, ℕ, ◌<◌, Bool, true, false, ltb, [], ◌∷◌, sym, refl, ap, ◌∙◌, subst, arith}
-use Rattle.std.proofs.lemmas.Bool.Decides.{nat_tests}
+use Rattle.std.proofs.Common.{◌≡◌, ℕ, Bool, true, false, [], ◌∷◌, sym, refl, ap, ◌∙◌, subst}
 use Rattle.std.proofs.lemmas.Bool.{false≢true, true≢false, and_right}
 use Rattle.plane.specs.Lists.{or, pick, any}
 use Rattle.plane.specs.Parity.{xors}
 use Rattle.plane.proofs.Booleans.{or_from}
 use Rattle.plane.proofs.Lists.{any_false_from, any_never}
 use Rattle.ground.specs.Shapes.{Shape, edges, a_shape}
-use Rattle.ground.specs.Boxes.{box_of}
+use Rattle.ground.specs.Boxes.{boxes_apart}
 use Rattle.ground.specs.Statements.{crossing}
 use Rattle.ground.specs.Ways.{Lies}
-use Rattle.ground.specs.declared.bounding.Extent.{Extent}
 use Rattle.relate.specs.Samples.{meeting, starts}
 use Rattle.relate.specs.Statements.{WayFoundTells}
-use Rattle.relate.specs.Finding.{found_at, found_along, found, way_found, boxes_apart}
+use Rattle.relate.specs.Finding.{found_at, found_along, found, way_found}
 use Rattle.relate.specs.Fitting.{bounds_of}
 use Rattle.relate.specs.Contacts.{contact, is_crossing}
 use Rattle.relate.specs.Siding.{sides_along, both_sides, turned_sides, sides_both, way_so}
 use Rattle.relate.specs.declared.contact.Contact.{Contact}
+use Rattle.relate.specs.declared.contact.Contact.TheVariants.{Crossing}
 use Rattle.relate.specs.declared.sides.Sides.{Sides}
 use Rattle.relate.proofs.Beside.{none_seen}
 use Rattle.relate.proofs.Outside.{apart_boxes}
@@ -31,9 +30,9 @@ along_both s t p q r u first turned second back =
     back ∙ ap turned_sides (second ∙ ap (λ v. both_sides v (sides_along t s)) (turned ∙ ap turned_sides first))
 
 -- THE WAY
-pub crossed_way : (s t : Shape) (k : Contact) → k ≡ contact (crossing s t) (meeting s t) → is_crossing k ≡ true → 5 ≡ way_found s t
+pub crossed_way : (s t : Shape) (k : Contact) → k ≡ contact (crossing s t) (meeting s t) → k ≡ Crossing → 5 ≡ way_found s t
 unfolding way_found
-crossed_way s t k is crossed = crossed_first (crossing s t) (meeting s t) _ (ap is_crossing (sym is) ∙ crossed)
+crossed_way s t k is crossed = crossed_first (crossing s t) (meeting s t) _ (ap is_crossing (sym is ∙ crossed))
   where
     crossed_first : (a m : Bool) (n : ℕ) → is_crossing (contact a m) ≡ true → 5 ≡ pick a 5 n
     crossed_first true m n h = refl
@@ -81,23 +80,10 @@ none_second s =
     (any_never (edges s))
 
 -- BOXES APART
-pub apart_way : (s t : Shape) (a b : Extent) → a ≡ bounds_of s → b ≡ bounds_of t → boxes_apart a b ≡ true → 0 ≡ way_found s t
-apart_way [] t a b h k apart = sym (none_first t)
-apart_way (c ∷ cs) [] a b h k apart = sym (none_second (c ∷ cs))
-apart_way (c ∷ cs) (d ∷ ds) a b h k apart = sym (apart_boxes (c ∷ cs) (d ∷ ds) (ap (boxes_apart (box_of (c ∷ cs))) (sym k) ∙ ap (λ v. boxes_apart v b) (sym h) ∙ apart))
-
--- boxes in range that are not apart are those of rows with corners
-pub boxes_whole : (s t : Shape) (a b : Extent) → a ≡ bounds_of s → b ≡ bounds_of t → a.east < 1048576 → b.east < 1048576 → boxes_apart a b ≡ false →
-    (a ≡ box_of s) × (b ≡ box_of t)
-boxes_whole (c ∷ cs) (d ∷ ds) a b h k far too_far met = (h, k)
-boxes_whole [] t a b h k far too_far met = absurd (beyond a.west b.east (ap (λ v. v.west) h) too_far _ _ met)
-  where
-    beyond : (w e : ℕ) → w ≡ 1048576 → e < 1048576 → (x y : Bool) → or (or x (ltb e w)) y ≡ false → ⊥
-    beyond w e is below x y m = grind (arith, nat_tests)
-boxes_whole (c ∷ cs) [] a b h k far too_far met = absurd (beyond b.west a.east (ap (λ v. v.west) k) far _ _ met)
-  where
-    beyond : (w e : ℕ) → w ≡ 1048576 → e < 1048576 → (x y : Bool) → or (or (ltb e w) x) y ≡ false → ⊥
-    beyond w e is below x y m = grind (arith, nat_tests)
+pub apart_way : (s t : Shape) → boxes_apart (bounds_of s) (bounds_of t) ≡ true → 0 ≡ way_found s t
+apart_way [] t apart = sym (none_first t)
+apart_way (c ∷ cs) [] apart = sym (none_second (c ∷ cs))
+apart_way (c ∷ cs) (d ∷ ds) apart = sym (apart_boxes (c ∷ cs) (d ∷ ds) apart)
 
 -- OF TWO GROUNDS it is the way by all points
 pub way_lies : (s t : Shape) (n : ℕ) → n ≡ way_found s t → a_shape s ≡ true → a_shape t ≡ true → Lies s t n

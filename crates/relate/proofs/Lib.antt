@@ -10,6 +10,7 @@ pub mod Unmet
 pub mod Examples
 pub mod Outside
 pub mod Finding
+pub mod Rings
 pub mod Rounds
 pub mod Contacts
 pub mod Ranges

@@ -84,11 +84,6 @@ fits_near row h =
     let w = and_parts (eqb (length row % 2) 0) (every (λ n. ltb n 1048576) row) h in
     sym (numbers_near row (eqb-true _ _ w.0)) ∙ w.1
 
--- its first corner, and those behind it
-pub near_front : (rest : List ℕ) → 2 ≤ length rest → every near_corner (shape_of rest) ≡ true →
-    (near_corner (front rest) ≡ true) × (every near_corner (shape_of (beyond rest)) ≡ true)
-unfolding every
-near_front rest h near = and_parts (near_corner (front rest)) (every near_corner (shape_of (beyond rest))) (sym (at_more (every near_corner) rest h) ∙ near)
-
+-- each of some corners in range is
 pub near_between : (a b : Corner) → near_corner a ≡ true → near_corner b ≡ true → near_edge (edge a b) ≡ true
 near_between a b h k = and_from (near_corner a) (near_corner b) h k

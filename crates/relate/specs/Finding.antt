@@ -37,7 +37,3 @@ abbrev pub misses : Extent → Edge → Bool
 misses b e =
     or (or (nat_lt (larger e.one.x e.other.x) b.west) (nat_lt b.east (smaller e.one.x e.other.x)))
     (or (nat_lt (larger e.one.y e.other.y) b.south) (nat_lt b.north (smaller e.one.y e.other.y)))
-
--- the one box is all west of the other, or east, or south, or north of it
-abbrev pub boxes_apart : Extent → Extent → Bool
-boxes_apart a b = or (or (nat_lt a.east b.west) (nat_lt b.east a.west)) (or (nat_lt a.north b.south) (nat_lt b.north a.south))

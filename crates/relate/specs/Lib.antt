@@ -2,7 +2,8 @@ pub mod Samples
 pub mod Finding
 pub mod Statements
 pub mod Examples
-pub mod Numbers
 pub mod Fitting
+pub mod Rings
+pub mod Going
 pub mod Contacts
 pub mod Siding

@@ -1,73 +1,51 @@
 // Crossings: whether the way from a point straight to the east crosses an odd number of a ring's edges.
-ghost use Rattle.std.specs.Prelude.{◌≡◌, ◌<◌, true, nat_lt};
+ghost use Rattle.std.specs.Prelude.{◌≡◌, ◌<◌, nat_lt};
 ghost use Rattle.ground.specs.Looks.{point};
-ghost use Rattle.ground.specs.Rows.{shape_of};
 ghost use Rattle.plane.specs.Code.{along};
 ghost use Rattle.plane.specs.Edges.{grown_edge};
 ghost use Rattle.plane.specs.Parity.{xor, crosses};
-ghost use Rattle.plane.specs.Sights.{near_edge, place};
-ghost use Rattle.relate.specs.Fitting.{row_fits};
+ghost use Rattle.plane.specs.Sights.{place};
+ghost use Rattle.relate.specs.Going.{shape_in};
 ghost use Rattle.relate.specs.Samples.{raw};
 
-use plane::{Corner, Edge, Sight, Viewer};
+use crate::ring::{NearEdge, Ring};
+use plane::{Edge, Sight, Viewer};
+use terms::Point;
 
 // The denominator of the points that are asked.
 const SCALE: u64 = 1048576;
 
 // The parity of a ring at a / SCALE, b / SCALE. Two comparisons tell of most edges that they do not reach over the point's height.
-pub(crate) fn is_odd(a: u64, b: u64, row: &[u64]) -> bool
-    requires { (row_fits row.now ≡ true) × ((a < 4398046511104) × (b < 4398046511104)) }
-    ensures { result ≡ raw (shape_of row.now) (point a b 1048576) }
+pub(crate) fn is_odd(a: u64, b: u64, ring: &Ring<'_>) -> bool
+    requires { (a < 4398046511104) × (b < 4398046511104) }
+    ensures { result ≡ raw (shape_in ring.now) (point a b 1048576) }
 {
-    let Some(viewer) = Viewer::new(a, b, SCALE) else {
-        return false;
-    };
-    let [x, y, rest @ ..] = row else {
+    let Some(viewer) = Viewer::new(Point { a, b, w: SCALE }) else {
         return false;
     };
     let floor = b / SCALE;
-    let start = Corner { x: *x, y: *y };
-    let mut one = start;
-    let mut rest = rest;
     let mut odd = false;
-    while let [x, y, more @ ..] = rest {
-        let last = one;
-        one = Corner { x: *x, y: *y };
-        rest = more;
-        if !reaches_over(floor, last.y, *y) {
-            continue;
+    for near in ring.edges() {
+        if reaches_over(floor, near.edge) && crosses(viewer, near) {
+            odd = !odd;
         }
-        let edge = Edge {
-            one: last,
-            other: one,
-        };
-        odd = flipped(odd, crosses(viewer, edge));
     }
-    let other = start;
-    flipped(odd, crosses(viewer, Edge { one, other }))
+    odd
 }
 
-// Whether just one of two heights is above the whole one.
-fn reaches_over(floor: u64, a: u64, b: u64) -> bool
-    ensures { result ≡ xor (nat_lt floor a) (nat_lt floor b) }
+// Whether just one end of an edge is above the whole height.
+fn reaches_over(floor: u64, e: Edge) -> bool
+    ensures { result ≡ xor (nat_lt floor e.one.y) (nat_lt floor e.other.y) }
 {
-    if floor < a { b <= floor } else { floor < b }
-}
-
-fn crosses(viewer: Viewer, e: Edge) -> bool
-    requires { near_edge (along e) ≡ true }
-    ensures { result ≡ crosses (grown_edge viewer.scale (along e)) (place viewer) }
-{
-    match viewer.look(e) {
-        Some(Sight::Crossed) => true,
-        Some(Sight::Border) => false,
-        Some(Sight::Missed) => false,
-        None => false,
+    if floor < e.one.y {
+        e.other.y <= floor
+    } else {
+        floor < e.other.y
     }
 }
 
-fn flipped(odd: bool, by: bool) -> bool
-    ensures { result ≡ xor odd by }
+fn crosses(viewer: Viewer, near: NearEdge) -> bool
+    ensures { result ≡ crosses (grown_edge viewer.scale (along near.edge)) (place viewer) }
 {
-    if by { !odd } else { odd }
+    viewer.look(near.edge) == Some(Sight::Crossed)
 }

@@ -1,57 +1,49 @@
 // How two grounds lie: contacts first, then what lies beside their edges, then the answer.
 ghost use Rattle.std.specs.Prelude.{◌≡◌, true, false, IfSome, MatchOption};
-ghost use Rattle.ground.specs.Boxes.{box_of};
 ghost use Rattle.ground.specs.Rows.{shape_of};
 ghost use Rattle.ground.specs.Shapes.{a_shape};
 ghost use Rattle.ground.specs.Ways.{Lies};
 ghost use Rattle.relate.specs.Finding.{way_found};
 ghost use Rattle.relate.specs.Fitting.{pair_fits};
-ghost use Rattle.relate.specs.Numbers.{way_number};
+ghost use Rattle.relate.specs.Going.{shape_in};
 ghost use Rattle.relate.specs.Siding.{sides_both, way_so};
+ghost use Rattle.terms.specs.Ways.{way_number};
 
-use crate::bounds::{apart, bounds};
 use crate::contact::Contact;
+use crate::ring::Ring;
 use crate::sides::Sides;
-use crate::way::Way;
-use ground::Extent;
+use terms::Way;
 
 // How the grounds of two rows lie to each other; nothing if a number is left over or out of range.
 pub fn how_two_lie(first: &[u64], second: &[u64]) -> Option<Way>
     ensures found { MatchOption result (pair_fits first.now second.now ≡ false) (λ w. (pair_fits first.now second.now ≡ true) × (way_number w ≡ way_found (shape_of first.now) (shape_of second.now))) }
     ensures lies { IfSome result (λ w. a_shape (shape_of first.now) ≡ true → a_shape (shape_of second.now) ≡ true → Lies (shape_of first.now) (shape_of second.now) (way_number w)) }
 {
-    let one = bounds(first)?;
-    let two = bounds(second)?;
-    if apart(one, two) {
+    let one = Ring::of(first)?;
+    let two = Ring::of(second)?;
+    if one.is_apart(&two) {
         return Some(Way::Apart);
     }
-    Some(way(first, one, second, two))
+    Some(way(&one, &two))
 }
 
-// The way of two rows with their boxes.
-fn way(first: &[u64], one: Extent, second: &[u64], two: Extent) -> Way
-    requires { (pair_fits first.now second.now ≡ true) × ((one ≡ box_of (shape_of first.now)) × (two ≡ box_of (shape_of second.now))) }
-    ensures { way_number result ≡ way_found (shape_of first.now) (shape_of second.now) }
+// The way of two rings.
+fn way(first: &Ring<'_>, second: &Ring<'_>) -> Way
+    ensures { way_number result ≡ way_found (shape_in first.now) (shape_in second.now) }
 {
-    let contact = Contact::of_rings(first, second, two);
-    if contact.is_crossing() {
+    let contact = Contact::of_rings(first, second);
+    if contact == Contact::Crossing {
         return Way::Over;
     }
-    way_so(contact, sides(first, one, second, two))
+    way_so(contact, sides(first, second))
 }
 
 // What lies beside the edges of both.
-fn sides(first: &[u64], one: Extent, second: &[u64], two: Extent) -> Sides
-    requires { (pair_fits first.now second.now ≡ true) × ((one ≡ box_of (shape_of first.now)) × (two ≡ box_of (shape_of second.now))) }
-    ensures { result ≡ sides_both (shape_of first.now) (shape_of second.now) }
+fn sides(first: &Ring<'_>, second: &Ring<'_>) -> Sides
+    ensures { result ≡ sides_both (shape_in first.now) (shape_in second.now) }
 {
-    let none = Sides {
-        both: false,
-        own: false,
-        other: false,
-    };
-    let seen = none.along(first, second, two);
-    seen.turned().along(second, first, one).turned()
+    let seen = Sides::default().along(first, second);
+    seen.turned().along(second, first).turned()
 }
 
 // What contacts and sides tell.

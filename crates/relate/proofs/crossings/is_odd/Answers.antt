@@ -1,75 +1,44 @@
-use Rattle.std.proofs.Common.{◌/◌, ◌<◌, ◌≤◌, length, sym, ◌∙◌, arith, rules}
-use Rattle.plane.specs.Code.{at}
+use Rattle.std.proofs.Common.{◌≡◌, ◌/◌, Bool, false, sym, ap, ◌∙◌, arith}
+use Rattle.plane.specs.Code.{along}
 use Rattle.plane.specs.Corners.{corner}
-use Rattle.plane.specs.Edges.{edge, grown_edge}
+use Rattle.plane.specs.Edges.{Edge, grown_edge}
 use Rattle.plane.specs.Levels.{Floors}
-use Rattle.plane.specs.Parity.{crosses, xors}
-use Rattle.ground.proofs.Rows.{front}
-use Rattle.relate.proofs.Ranges.{fits_near, near_front, near_between}
-use Rattle.relate.proofs.Rounds.{round_begins}
-use Rattle.relate.proofs.Counting.{unreached, stood_crosses, count_goes_on, count_skips, count_ends, count_none}
+use Rattle.plane.specs.Parity.{xor, xors, crosses}
+use Rattle.relate.specs.Going.{shape_in, edges_left}
+use Rattle.relate.proofs.Counting.{unreached, stood_crosses, count_begins, count_turns, count_skips, count_ends}
 use Rattle.relate.proofs.crossings.is_odd.Goals as goal
+use Rattle.relate.proofs.crossings.is_odd.Goals.{else-reaches_over-via-then-reaches_over+else-crosses, else-reaches_over-via-else-reaches_over}
 
-pub returns-in_default-row : goal.returns-in_default-row
-returns-in_default-row c =
-    let row = c.args.row.now in
-    let h : length row < 2 = search rules in
-    count_none (λ e. crosses (grown_edge 1048576 e) (corner c.args.a c.args.b)) row h
+pub loop-near-init : goal.loop-near-init
+loop-near-init c =
+    let f : Edge → Bool = λ e. crosses (grown_edge 1048576 e) (corner c.args.a c.args.b) in
+    ap (λ es. xor false (xors f es)) (ap edges_left c.into_iter-near-iterator.ensures.into_iter_gives ∙ c.edges-near-items.ensures)
+    ∙ count_begins f (shape_in c.args.ring.now)
 
-pub loop-rest-init : goal.loop-rest-init
-loop-rest-init c =
-    let row = c.args.row.now in
-    let h : 2 ≤ length row = search rules in
-    let near = near_front row h (fits_near row c.requires.0) in
-    (round_begins (xors (λ e. crosses (grown_edge 1048576 e) (corner c.args.a c.args.b))) row h, near.0, near.1)
+pub loop-near-preserved-then-crosses : goal.loop-near-preserved-then-crosses
+loop-near-preserved-then-crosses c =
+    let f : Edge → Bool = λ e. crosses (grown_edge 1048576 e) (corner c.args.a c.args.b) in
+    let e = along c.in-Some-near.near.edge in
+    let crossed = sym (stood_crosses c.in-Some.viewer c.args.a c.args.b 1048576 e c.in-Some.ensures.1) ∙ sym c.if-crosses.ensures in
+    count_turns f c.loop-near.odd e (edges_left c.next.new.self) crossed ∙ ap (λ es. xor c.loop-near.odd (xors f es)) (sym c.in-Some-near.ensures.steps)
+    ∙ c.loop-near.invariant
 
-pub loop-rest-preserved-then-not-reaches_over : goal.loop-rest-preserved-then-not-reaches_over
-loop-rest-preserved-then-not-reaches_over c =
-    let rest = c.loop-rest.rest.now in
-    let h : 2 ≤ length rest = search rules in
+pub loop-near-preserved : goal.loop-near-preserved
+loop-near-preserved c =
+    let f : Edge → Bool = λ e. crosses (grown_edge 1048576 e) (corner c.args.a c.args.b) in
+    let e = along c.in-Some-near.near.edge in
     let b = c.args.b in
     let floored : Floors b 1048576 (b / 1048576) = (omega arith, omega arith) in
-    let near = near_front rest h c.loop-rest.invariant.2 in
-    let one = at c.loop-rest.one in (
-      count_skips (λ e. crosses (grown_edge 1048576 e) (corner c.args.a b)) c.loop-rest.odd (front c.args.row.now) one rest h
-          (unreached 1048576 (b / 1048576) (edge one (front rest)) (corner c.args.a b) floored (sym c.if-not-reaches_over.ensures))
-          ∙ c.loop-rest.invariant.0,
-      near.0,
-      near.1,
-    )
-
-pub crosses-requires : goal.crosses-requires
-crosses-requires c =
-    let rest = c.loop-rest.rest.now in
-    let h : 2 ≤ length rest = search rules in
-    near_between (at c.loop-rest.one) (front rest) c.loop-rest.invariant.1 (near_front rest h c.loop-rest.invariant.2).0
-
-pub loop-rest-preserved : goal.loop-rest-preserved
-loop-rest-preserved c =
-    let rest = c.loop-rest.rest.now in
-    let h : 2 ≤ length rest = search rules in
-    let near = near_front rest h c.loop-rest.invariant.2 in
-    let e = edge (at c.loop-rest.one) (front rest) in
-    let told = c.crosses.ensures ∙ stood_crosses c.in-Some.viewer c.args.a c.args.b 1048576 e c.in-Some.ensures.1 in (
-      count_goes_on (λ e. crosses (grown_edge 1048576 e) (corner c.args.a c.args.b)) c.loop-rest.odd c.flipped-odd.result c.crosses.result (front c.args.row.now) (at c.loop-rest.one) rest h
-          c.flipped-odd.ensures told
-          ∙ c.loop-rest.invariant.0,
-      near.0,
-      near.1,
-    )
-
-pub crosses-requires-2 : goal.crosses-requires-2
-crosses-requires-2 c =
-    let row = c.args.row.now in
-    let h : 2 ≤ length row = search rules in
-    near_between (at c.loop-rest.one) (front row) c.loop-rest.invariant.1 (near_front row h (fits_near row c.requires.0)).0
+    let uncrossed : f e ≡ false =
+    elim c.else-reaches_over.branch [
+      | else-reaches_over-via-then-reaches_over+else-crosses w ↦
+          sym (stood_crosses c.in-Some.viewer c.args.a b 1048576 e c.in-Some.ensures.1) ∙ sym w.if-crosses.ensures
+      | else-reaches_over-via-else-reaches_over w ↦ unreached 1048576 (b / 1048576) e (corner c.args.a b) floored (sym w.if-reaches_over.ensures)
+    ] in
+    count_skips f c.loop-near.odd e (edges_left c.next.new.self) uncrossed ∙ ap (λ es. xor c.loop-near.odd (xors f es)) (sym c.in-Some-near.ensures.steps)
+    ∙ c.loop-near.invariant
 
 pub returns : goal.returns
 returns c =
-    let rest = c.loop-rest.rest.now in
-    let h : length rest < 2 = search rules in
-    let e = edge (at c.loop-rest.one) (front c.args.row.now) in
-    let told = c.crosses-2.ensures ∙ stood_crosses c.in-Some.viewer c.args.a c.args.b 1048576 e c.in-Some.ensures.1 in
-    count_ends (λ e. crosses (grown_edge 1048576 e) (corner c.args.a c.args.b)) c.loop-rest.odd c.flipped.result c.crosses-2.result (front c.args.row.now) (at c.loop-rest.one) rest h
-    c.flipped.ensures told
-    ∙ c.loop-rest.invariant.0
+    let f : Edge → Bool = λ e. crosses (grown_edge 1048576 e) (corner c.args.a c.args.b) in
+    count_ends f c.loop-near.odd ∙ ap (λ es. xor c.loop-near.odd (xors f es)) (sym c.in-None.ensures.steps.0) ∙ c.loop-near.invariant

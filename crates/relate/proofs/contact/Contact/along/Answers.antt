@@ -1,54 +1,44 @@
-use Rattle.std.proofs.Common.{◌<◌, ◌≤◌, length, sym, ap, ◌∙◌, rules}
-use Rattle.plane.specs.Code.{at, along}
-use Rattle.plane.specs.Edges.{edge, cross_over, meet}
-use Rattle.ground.proofs.Rows.{front}
+use Rattle.std.proofs.Common.{◌≡◌, sym, ap, ◌∙◌, rules}
+use Rattle.plane.specs.Code.{along}
+use Rattle.plane.specs.Edges.{cross_over, meet}
 use Rattle.relate.specs.Contacts.{joined}
-use Rattle.relate.proofs.Rounds.{round_begins}
-use Rattle.relate.proofs.Contacts.{contact_of, contact_goes_on, contact_ends, contact_none, contact_skips, contact_stops, level_apart}
+use Rattle.relate.specs.Going.{shape_in, edges_left}
+use Rattle.relate.specs.declared.contact.Contact.TheVariants.{Clear, Crossing}
+use Rattle.relate.proofs.Contacts.{contact_of, contact_begins, contact_goes_on, contact_skips, contact_stops, contact_ends, max_joined, level_apart}
 use Rattle.relate.proofs.contact.Contact.along.Goals as goal
 
-pub returns-in_default : goal.returns-in_default
-returns-in_default c =
-    let row = c.args.row.now in
-    let h : length row < 2 = search rules in
-    contact_none (cross_over (along c.args.e)) (meet (along c.args.e)) row h
-
-pub loop-rest-init : goal.loop-rest-init
-loop-rest-init c =
-    let row = c.args.row.now in
-    let h : 2 ≤ length row = search rules in
-    round_begins (contact_of (cross_over (along c.args.e)) (meet (along c.args.e))) row h
-
-pub loop-rest-preserved-then-heights_apart : goal.loop-rest-preserved-then-heights_apart
-loop-rest-preserved-then-heights_apart c =
-    let rest = c.loop-rest.rest.now in
-    let h : 2 ≤ length rest = search rules in
+pub loop-near-init : goal.loop-near-init
+loop-near-init c =
     let e = along c.args.e in
-    contact_skips (cross_over e) (meet e) c.loop-rest.contact (front c.args.row.now) (at c.loop-rest.one) rest h
-    (level_apart e (edge (at c.loop-rest.one) (front rest)) (sym c.if-heights_apart.ensures))
-    ∙ c.loop-rest.invariant
+    ap (λ es. joined Clear (contact_of (cross_over e) (meet e) es)) (ap edges_left c.into_iter-near-iterator.ensures.into_iter_gives ∙ c.edges-near-items.ensures)
+    ∙ contact_begins (cross_over e) (meet e) (shape_in c.args.ring.now)
 
-pub returns-then-is_crossing : goal.returns-then-is_crossing
-returns-then-is_crossing c =
-    let rest = c.loop-rest.rest.now in
-    let h : 2 ≤ length rest = search rules in
+pub loop-near-preserved-then-heights_apart : goal.loop-near-preserved-then-heights_apart
+loop-near-preserved-then-heights_apart c =
     let e = along c.args.e in
-    contact_stops (cross_over e) (meet e) c.loop-rest.contact c.joined-contact.result (front c.args.row.now) (at c.loop-rest.one) rest h
-    (c.joined-contact.ensures ∙ ap (joined c.loop-rest.contact) c.between.ensures) (sym c.if-is_crossing.ensures)
-    ∙ c.loop-rest.invariant
+    let f = along c.in-Some.near.edge in
+    contact_skips (cross_over e) (meet e) c.loop-near.contact f (edges_left c.next.new.self) (level_apart e f (sym c.if-heights_apart.ensures))
+    ∙ ap (λ es. joined c.loop-near.contact (contact_of (cross_over e) (meet e) es)) (sym c.in-Some.ensures.steps) ∙ c.loop-near.invariant
 
-pub loop-rest-preserved : goal.loop-rest-preserved
-loop-rest-preserved c =
-    let rest = c.loop-rest.rest.now in
-    let h : 2 ≤ length rest = search rules in
+pub returns-then-eq : goal.returns-then-eq
+returns-then-eq c =
     let e = along c.args.e in
-    contact_goes_on (cross_over e) (meet e) c.loop-rest.contact c.joined-contact.result (front c.args.row.now) (at c.loop-rest.one) rest h
-    (c.joined-contact.ensures ∙ ap (joined c.loop-rest.contact) c.between.ensures) ∙ c.loop-rest.invariant
+    let k = c.loop-near.contact in
+    let crossed : c.max-contact.result ≡ Crossing = search rules in
+    contact_stops (cross_over e) (meet e) k c.max-contact.result (along c.in-Some.near.edge) (edges_left c.next.new.self)
+    (c.max-contact.ensures ∙ max_joined k c.between.result ∙ ap (joined k) c.between.ensures) crossed
+    ∙ ap (λ es. joined k (contact_of (cross_over e) (meet e) es)) (sym c.in-Some.ensures.steps) ∙ c.loop-near.invariant
+
+pub loop-near-preserved : goal.loop-near-preserved
+loop-near-preserved c =
+    let e = along c.args.e in
+    let k = c.loop-near.contact in
+    contact_goes_on (cross_over e) (meet e) k c.max-contact.result (along c.in-Some.near.edge) (edges_left c.next.new.self)
+    (c.max-contact.ensures ∙ max_joined k c.between.result ∙ ap (joined k) c.between.ensures)
+    ∙ ap (λ es. joined k (contact_of (cross_over e) (meet e) es)) (sym c.in-Some.ensures.steps) ∙ c.loop-near.invariant
 
 pub returns : goal.returns
 returns c =
-    let rest = c.loop-rest.rest.now in
-    let h : length rest < 2 = search rules in
     let e = along c.args.e in
-    c.joined.ensures ∙ ap (joined c.loop-rest.contact) c.between-2.ensures ∙ contact_ends (cross_over e) (meet e) c.loop-rest.contact (front c.args.row.now) (at c.loop-rest.one) rest h
-    ∙ c.loop-rest.invariant
+    contact_ends (cross_over e) (meet e) c.loop-near.contact
+    ∙ ap (λ es. joined c.loop-near.contact (contact_of (cross_over e) (meet e) es)) (sym c.in-None.ensures.steps.0) ∙ c.loop-near.invariant

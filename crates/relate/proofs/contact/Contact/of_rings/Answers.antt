@@ -1,55 +1,45 @@
-use Rattle.std.proofs.Common.{◌<◌, ◌≤◌, length, sym, ap, ◌∙◌, rules}
-use Rattle.plane.specs.Code.{at}
-use Rattle.plane.specs.Lists.{any}
+use Rattle.std.proofs.Common.{◌≡◌, sym, ap, ◌∙◌, rules}
+use Rattle.plane.specs.Code.{along}
 use Rattle.plane.specs.Edges.{cross_over, meet}
+use Rattle.plane.specs.Lists.{any}
 use Rattle.ground.specs.Shapes.{edges}
-use Rattle.ground.specs.Rows.{shape_of}
 use Rattle.ground.specs.Statements.{crossing}
-use Rattle.relate.specs.Samples.{meeting}
-use Rattle.ground.proofs.Rows.{front}
 use Rattle.relate.specs.Contacts.{joined}
-use Rattle.relate.proofs.Rounds.{round_begins}
-use Rattle.relate.proofs.Contacts.{contact_of, contact_goes_on, contact_ends, contact_none, contact_stops}
+use Rattle.relate.specs.Going.{shape_in, edges_left}
+use Rattle.relate.specs.Samples.{meeting}
+use Rattle.relate.specs.declared.contact.Contact.TheVariants.{Clear, Crossing}
+use Rattle.relate.proofs.Contacts.{contact_of, contact_begins, contact_goes_on, contact_stops, contact_ends, max_joined}
 use Rattle.relate.proofs.contact.Contact.of_rings.Goals as goal
 
-pub returns-in_default : goal.returns-in_default
+pub loop-near-init : goal.loop-near-init
+loop-near-init c =
+    let es = edges (shape_in c.args.second.now) in
+    ap (λ left. joined Clear (contact_of (λ e. any (cross_over e) es) (λ e. any (meet e) es) left))
+    (ap edges_left c.into_iter-near-iterator.ensures.into_iter_gives ∙ c.edges-near-items.ensures)
+    ∙ contact_begins (λ e. any (cross_over e) es) (λ e. any (meet e) es) (shape_in c.args.first.now)
+
+pub returns-then-eq : goal.returns-then-eq
 unfolding crossing meeting
-returns-in_default c =
-    let row = c.args.first.now in
-    let es = edges (shape_of c.args.second.now) in
-    let h : length row < 2 = search rules in
-    contact_none (λ e. any (cross_over e) es) (λ e. any (meet e) es) row h
+returns-then-eq c =
+    let es = edges (shape_in c.args.second.now) in
+    let k = c.loop-near.contact in
+    let crossed : c.max-contact.result ≡ Crossing = search rules in
+    contact_stops (λ e. any (cross_over e) es) (λ e. any (meet e) es) k c.max-contact.result (along c.in-Some.near.edge) (edges_left c.next.new.self)
+    (c.max-contact.ensures ∙ max_joined k c.near.result ∙ ap (joined k) c.near.ensures) crossed
+    ∙ ap (λ left. joined k (contact_of (λ e. any (cross_over e) es) (λ e. any (meet e) es) left)) (sym c.in-Some.ensures.steps) ∙ c.loop-near.invariant
 
-pub loop-rest-init : goal.loop-rest-init
-loop-rest-init c =
-    let row = c.args.first.now in
-    let es = edges (shape_of c.args.second.now) in
-    let h : 2 ≤ length row = search rules in
-    round_begins (contact_of (λ e. any (cross_over e) es) (λ e. any (meet e) es)) row h
-
-pub returns-then-is_crossing : goal.returns-then-is_crossing
-unfolding crossing meeting
-returns-then-is_crossing c =
-    let rest = c.loop-rest.rest.now in
-    let h : 2 ≤ length rest = search rules in
-    let es = edges (shape_of c.args.second.now) in
-    contact_stops (λ e. any (cross_over e) es) (λ e. any (meet e) es) c.loop-rest.contact c.joined-contact.result (front c.args.first.now) (at c.loop-rest.one) rest h
-    (c.joined-contact.ensures ∙ ap (joined c.loop-rest.contact) c.near.ensures) (sym c.if-is_crossing.ensures)
-    ∙ c.loop-rest.invariant
-
-pub loop-rest-preserved : goal.loop-rest-preserved
-loop-rest-preserved c =
-    let rest = c.loop-rest.rest.now in
-    let h : 2 ≤ length rest = search rules in
-    let es = edges (shape_of c.args.second.now) in
-    contact_goes_on (λ e. any (cross_over e) es) (λ e. any (meet e) es) c.loop-rest.contact c.joined-contact.result (front c.args.first.now) (at c.loop-rest.one) rest h
-    (c.joined-contact.ensures ∙ ap (joined c.loop-rest.contact) c.near.ensures) ∙ c.loop-rest.invariant
+pub loop-near-preserved : goal.loop-near-preserved
+loop-near-preserved c =
+    let es = edges (shape_in c.args.second.now) in
+    let k = c.loop-near.contact in
+    contact_goes_on (λ e. any (cross_over e) es) (λ e. any (meet e) es) k c.max-contact.result (along c.in-Some.near.edge) (edges_left c.next.new.self)
+    (c.max-contact.ensures ∙ max_joined k c.near.result ∙ ap (joined k) c.near.ensures)
+    ∙ ap (λ left. joined k (contact_of (λ e. any (cross_over e) es) (λ e. any (meet e) es) left)) (sym c.in-Some.ensures.steps) ∙ c.loop-near.invariant
 
 pub returns : goal.returns
 unfolding crossing meeting
 returns c =
-    let rest = c.loop-rest.rest.now in
-    let h : length rest < 2 = search rules in
-    let es = edges (shape_of c.args.second.now) in
-    c.joined.ensures ∙ ap (joined c.loop-rest.contact) c.near-2.ensures ∙ contact_ends (λ e. any (cross_over e) es) (λ e. any (meet e) es) c.loop-rest.contact (front c.args.first.now) (at c.loop-rest.one) rest h
-    ∙ c.loop-rest.invariant
+    let es = edges (shape_in c.args.second.now) in
+    contact_ends (λ e. any (cross_over e) es) (λ e. any (meet e) es) c.loop-near.contact
+    ∙ ap (λ left. joined c.loop-near.contact (contact_of (λ e. any (cross_over e) es) (λ e. any (meet e) es) left)) (sym c.in-None.ensures.steps.0)
+    ∙ c.loop-near.invariant
