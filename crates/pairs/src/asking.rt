@@ -1,13 +1,13 @@
 // Pairs of grounds, asked both ways.
 use crate::cells::look;
 use crate::fault::Fault;
-use crate::kind::Kind;
 use crate::pair::Pair;
 use crate::random::Random;
 use crate::seen::Seen;
 use crate::tally::Tally;
-use relate::{Way, how_two_lie};
+use relate::how_two_lie;
 use std::alloc::{AllocError, Global};
+use terms::Way;
 
 // How many pairs of a kind are made. Those that are no grounds are not asked.
 const MADE: u32 = 4000;
@@ -16,7 +16,7 @@ const MADE: u32 = 4000;
 const STRETCH: u64 = 16000;
 
 // How often the two ways of looking differ, how often the answer is another one from the other side or of stretched rings, and how often a number did not fit.
-#[derive(Clone, Copy)]
+#[derive(Clone, Copy, Default)]
 pub struct Wrong {
     pub differ: u64,
     pub other_side: u64,
@@ -24,22 +24,11 @@ pub struct Wrong {
     pub too_large: u64,
 }
 
-impl Wrong {
-    pub(crate) fn none() -> Self {
-        Wrong {
-            differ: 0,
-            other_side: 0,
-            stretched: 0,
-            too_large: 0,
-        }
-    }
-}
-
-pub(crate) fn is_told(told: Option<Way>, way: Way) -> bool {
-    match told {
-        Some(told) => told.number() == way.number(),
-        None => false,
-    }
+// What came of all kinds that were asked.
+#[derive(Clone, Copy, Default)]
+pub struct Asked {
+    pub all: Tally,
+    pub wrong: Wrong,
 }
 
 fn turned_round(way: Way) -> Way {
@@ -60,11 +49,7 @@ fn look_at(heap: Global, pair: &Pair) -> Result<Option<Seen>, AllocError> {
 }
 
 fn stretched(heap: Global, row: &[u64]) -> Result<Vec<u64>, AllocError> {
-    let mut stretched = Vec::new(heap);
-    for number in row.iter() {
-        stretched.push(number.wrapping_mul(STRETCH))?;
-    }
-    Ok(stretched)
+    row.iter().map(|n| n.wrapping_mul(STRETCH)).collect(heap)
 }
 
 // Rings that are stretched lie as before, with numbers as large as there are.
@@ -76,19 +61,19 @@ fn is_told_stretched(
 ) -> Result<bool, AllocError> {
     let first = stretched(heap, first)?;
     let second = stretched(heap, second)?;
-    Ok(is_told(how_two_lie(&first, &second), way))
+    Ok(how_two_lie(&first, &second) == Some(way))
 }
 
 // Asks a pair from both sides, and stretched. One that is told wrong is shown.
 fn ask(rt: &HostRuntime, pair: &Pair, way: Way, wrong: &mut Wrong) -> anyhow::Result<()> {
     let first = pair.first.row(rt.alloc())?;
     let second = pair.second.row(rt.alloc())?;
-    if !is_told(how_two_lie(&first, &second), way) {
+    if how_two_lie(&first, &second) != Some(way) {
         wrong.differ = wrong.differ.wrapping_add(1);
-        let number = way.number();
+        let number = u64::from(way);
         println!(rt; "{first:?} and {second:?}: {number} by points")?;
     }
-    if !is_told(how_two_lie(&second, &first), turned_round(way)) {
+    if how_two_lie(&second, &first) != Some(turned_round(way)) {
         wrong.other_side = wrong.other_side.wrapping_add(1);
     }
     if !is_told_stretched(rt.alloc(), &first, &second, way)? {
@@ -98,17 +83,19 @@ fn ask(rt: &HostRuntime, pair: &Pair, way: Way, wrong: &mut Wrong) -> anyhow::Re
 }
 
 // Asks the pairs of a kind that are grounds.
-pub(crate) fn ask_kind(
+fn ask_kind<F: Fn(Global, &mut Random) -> Result<Pair, AllocError>>(
     rt: &HostRuntime,
-    kind: Kind,
     seed: u64,
+    make: F,
     wrong: &mut Wrong,
-) -> anyhow::Result<Tally> {
+) -> anyhow::Result<Tally>
+    requires { F.IsAlwaysCallable make }
+{
     let heap = rt.alloc();
     let mut random = Random::new(seed);
-    let mut tally = Tally::new();
+    let mut tally = Tally::default();
     for _ in 0..MADE {
-        let pair = kind.pair(heap, &mut random)?.shuffled(&mut random);
+        let pair = make(heap, &mut random)?.shuffled(&mut random);
         if !pair.are_grounds(heap)? {
             continue;
         }
@@ -120,4 +107,22 @@ pub(crate) fn ask_kind(
         ask(rt, &pair, seen.way(), wrong)?;
     }
     Ok(tally)
+}
+
+impl Asked {
+    // Asks one kind more, of pairs that are made so, and writes a line for it.
+    pub(crate) fn ask<F: Fn(Global, &mut Random) -> Result<Pair, AllocError>>(
+        &mut self,
+        rt: &HostRuntime,
+        seed: u64,
+        name: &str,
+        make: F,
+    ) -> anyhow::Result<()>
+        requires { F.IsAlwaysCallable make }
+    {
+        let tally = ask_kind(rt, seed, make, &mut self.wrong)?;
+        tally.show(rt, name)?;
+        self.all.add(tally);
+        Ok(())
+    }
 }

@@ -3,6 +3,7 @@ use crate::motion::Motion;
 use crate::pair::Pair;
 use crate::random::{Field, Random};
 use crate::ring::Ring;
+use crate::segment::Segment;
 use crate::spot::Spot;
 use std::alloc::{AllocError, Global};
 
@@ -27,16 +28,16 @@ fn stretched_ring(heap: Global, random: &mut Random, factor: u32) -> Result<Ring
 fn ring_on(
     heap: Global,
     random: &mut Random,
-    a: Spot,
-    b: Spot,
+    edge: Segment,
     field: Field,
 ) -> Result<Ring, AllocError> {
     let tries = random.below(MOST_TRIES);
-    if random.one_in(2) {
-        Ring::on_edge(heap, random, a, b, tries, field)
+    let edge = if random.one_in(2) {
+        edge
     } else {
-        Ring::on_edge(heap, random, b, a, tries, field)
-    }
+        edge.reversed()
+    };
+    Ring::on_edge(heap, random, edge, tries, field)
 }
 
 pub(crate) fn random(heap: Global, random: &mut Random) -> Result<Pair, AllocError> {
@@ -50,13 +51,7 @@ pub(crate) fn shared_edge(heap: Global, random: &mut Random) -> Result<Pair, All
     let field = grid(random);
     let first = any_ring(heap, random, field)?;
     let place = random.place(first.corners.len());
-    let second = ring_on(
-        heap,
-        random,
-        first.corner(place),
-        first.corner_after(place),
-        field,
-    )?;
+    let second = ring_on(heap, random, first.edge(place), field)?;
     Ok(Pair { first, second })
 }
 
@@ -64,17 +59,14 @@ pub(crate) fn shared_edge(heap: Global, random: &mut Random) -> Result<Pair, All
 pub(crate) fn part_of_an_edge(heap: Global, random: &mut Random) -> Result<Pair, AllocError> {
     let first = stretched_ring(heap, random, 3)?;
     let place = random.place(first.corners.len());
-    let a = first.corner(place);
-    let b = first.corner_after(place);
+    let edge = first.edge(place);
     let from = random.from(-1, 3);
     let to = from.wrapping_add(random.from(1, 2));
-    let second = ring_on(
-        heap,
-        random,
-        a.toward(b, from, 3),
-        a.toward(b, to, 3),
-        Field::square(22),
-    )?;
+    let part = Segment {
+        from: edge.part(from, 3),
+        to: edge.part(to, 3),
+    };
+    let second = ring_on(heap, random, part, Field::square(22))?;
     Ok(Pair { first, second })
 }
 
@@ -82,9 +74,9 @@ pub(crate) fn corner_on_edge(heap: Global, random: &mut Random) -> Result<Pair, 
     let first = stretched_ring(heap, random, 2)?;
     let field = Field::square(14);
     let place = random.place(first.corners.len());
-    let amid = first.corner(place).toward(first.corner_after(place), 1, 2);
-    let far = random.spot(field);
-    let second = ring_on(heap, random, amid, far, field)?;
+    let from = first.edge(place).part(1, 2);
+    let to = random.spot(field);
+    let second = ring_on(heap, random, Segment { from, to }, field)?;
     Ok(Pair { first, second })
 }
 
@@ -92,8 +84,9 @@ pub(crate) fn corner_on_corner(heap: Global, random: &mut Random) -> Result<Pair
     let field = grid(random);
     let first = any_ring(heap, random, field)?;
     let place = random.place(first.corners.len());
-    let far = random.spot(field);
-    let second = ring_on(heap, random, first.corner(place), far, field)?;
+    let from = first.corner(place);
+    let to = random.spot(field);
+    let second = ring_on(heap, random, Segment { from, to }, field)?;
     Ok(Pair { first, second })
 }
 

@@ -16,6 +16,15 @@ fn nudge(random: &mut Random) -> Spot {
     }
 }
 
+// More seldom still.
+fn rare_nudge(random: &mut Random) -> Spot {
+    if random.one_in(3) {
+        nudge(random)
+    } else {
+        Spot::at(0, 0)
+    }
+}
+
 // A block with a notch from the north, and a box about as large as the notch.
 pub(crate) fn in_a_notch(heap: Global, random: &mut Random) -> Result<Pair, AllocError> {
     let west = random.from(3, 2);
@@ -93,11 +102,7 @@ pub(crate) fn spirals(heap: Global, random: &mut Random) -> Result<Pair, AllocEr
     } else {
         Ring::of(heap, &GAP)?
     };
-    let way = if random.one_in(3) {
-        nudge(random)
-    } else {
-        Spot::at(0, 0)
-    };
+    let way = rare_nudge(random);
     let second = other
         .under(wide)
         .inset(heap, random.from(-1, 3))?
@@ -155,11 +160,7 @@ pub(crate) fn cut_slab(heap: Global, random: &mut Random) -> Result<Pair, AllocE
     let bends = random.below(5).wrapping_add(1);
     let east = i64::from(bends).wrapping_mul(4);
     let place = random.place(bends as usize);
-    let way = if random.one_in(3) {
-        nudge(random)
-    } else {
-        Spot::at(0, 0)
-    };
+    let way = rare_nudge(random);
     let raised = if random.one_in(3) {
         random.from(-1, 3)
     } else {

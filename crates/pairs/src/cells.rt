@@ -61,15 +61,9 @@ fn add_contacts(
 }
 
 // Some corner of the ones lies on one of the others.
-fn corner_on(ones: &[Segment], others: &[Segment]) -> Result<bool, Fault> {
-    for one in ones.iter() {
-        for other in others.iter() {
-            if other.has(one.from)? {
-                return Ok(true);
-            }
-        }
-    }
-    Ok(false)
+fn corner_on(ones: &[Segment], others: &[Segment]) -> bool {
+    ones.iter()
+        .any(|one| others.iter().any(|other| other.has(one.from)))
 }
 
 // The nearest meridian to the east.
@@ -120,60 +114,58 @@ fn inside_above(passages: &[Passage], height: Fraction) -> Result<(bool, bool), 
     Ok((in_first, in_second))
 }
 
-fn look_amid(
-    heap: Global,
-    first: &[Segment],
-    second: &[Segment],
-    amid: Fraction,
-    seen: &mut Seen,
-) -> Result<(), Fault> {
-    let mut passages = Vec::new(heap);
-    add_passages(&mut passages, Of::First, first, amid)?;
-    add_passages(&mut passages, Of::Second, second, amid)?;
-    for passage in passages.iter() {
-        let (in_first, in_second) = inside_above(&passages, passage.height)?;
-        seen.note(in_first, in_second);
-    }
-    Ok(())
+// The edges of two rings.
+#[derive(Drop)]
+struct Borders {
+    first: Vec<Segment>,
+    second: Vec<Segment>,
 }
 
-// All meridians, and where the borders come to each other.
-fn cut_strips(
-    heap: Global,
-    first: &[Segment],
-    second: &[Segment],
-    seen: &mut Seen,
-) -> Result<Vec<Fraction>, Fault> {
-    let mut meridians = Vec::new(heap);
-    add_corners(&mut meridians, first)?;
-    add_corners(&mut meridians, second)?;
-    for segment in first.iter() {
-        add_contacts(&mut meridians, *segment, second, seen)?;
-    }
-    Ok(meridians)
-}
-
-fn look_along(
-    heap: Global,
-    first: &[Segment],
-    second: &[Segment],
-    seen: &mut Seen,
-) -> Result<(), Fault> {
-    let meridians = cut_strips(heap, first, second, seen)?;
-    for west in meridians.iter() {
-        if let Some(east) = next_east(&meridians, *west)? {
-            look_amid(heap, first, second, west.middle(east)?, seen)?;
+impl Borders {
+    fn look_amid(&self, heap: Global, amid: Fraction, seen: &mut Seen) -> Result<(), Fault> {
+        let mut passages = Vec::new(heap);
+        add_passages(&mut passages, Of::First, &self.first, amid)?;
+        add_passages(&mut passages, Of::Second, &self.second, amid)?;
+        for passage in passages.iter() {
+            let (in_first, in_second) = inside_above(&passages, passage.height)?;
+            seen.note(in_first, in_second);
         }
+        Ok(())
     }
-    Ok(())
+
+    // All meridians, and where the borders come to each other.
+    fn cut_strips(&self, heap: Global, seen: &mut Seen) -> Result<Vec<Fraction>, Fault> {
+        let mut meridians = Vec::new(heap);
+        add_corners(&mut meridians, &self.first)?;
+        add_corners(&mut meridians, &self.second)?;
+        for segment in self.first.iter() {
+            add_contacts(&mut meridians, *segment, &self.second, seen)?;
+        }
+        Ok(meridians)
+    }
+
+    fn look_along(&self, heap: Global, seen: &mut Seen) -> Result<(), Fault> {
+        let meridians = self.cut_strips(heap, seen)?;
+        for west in meridians.iter() {
+            if let Some(east) = next_east(&meridians, *west)? {
+                self.look_amid(heap, west.middle(east)?, seen)?;
+            }
+        }
+        Ok(())
+    }
 }
 
 // What there is to be seen of two rings.
 pub(crate) fn look(heap: Global, first: &Ring, second: &Ring) -> Result<Seen, Fault> {
-    let first = Segment::all(heap, first)?;
-    let second = Segment::all(heap, second)?;
-    let mut seen = Seen::nothing();
-    seen.on_both = corner_on(&first, &second)? || corner_on(&second, &first)?;
-    look_along(heap, &first, &second, &mut seen)?;
+    let borders = Borders {
+        first: Segment::all(heap, first)?,
+        second: Segment::all(heap, second)?,
+    };
+    let mut seen = Seen {
+        on_both: corner_on(&borders.first, &borders.second)
+            || corner_on(&borders.second, &borders.first),
+        ..Seen::default()
+    };
+    borders.look_along(heap, &mut seen)?;
     Ok(seen)
 }

@@ -1,17 +1,17 @@
 // Grounds that are cut in two between two of their corners: the areas add up, the pieces touch, and each lies within the whole.
-use crate::asking::is_told;
 use crate::random::{Field, Random};
 use crate::ring::Ring;
 use ground::{is_ground, twice_area};
-use relate::{Way, how_two_lie};
+use relate::how_two_lie;
 use std::alloc::{AllocError, Global};
+use terms::Way;
 
 const RINGS: u32 = 2000;
 
 const TRIES: u32 = 24;
 
 // How many cuts there were, and how often an area or a way was wrong.
-#[derive(Clone, Copy)]
+#[derive(Clone, Copy, Default)]
 pub struct Cuts {
     pub cuts: u64,
     pub areas: u64,
@@ -26,15 +26,15 @@ fn areas_add_up(whole: &[u64], one: &[u64], other: &[u64]) -> bool {
 }
 
 fn ways_are_right(whole: &[u64], one: &[u64], other: &[u64]) -> bool {
-    is_told(how_two_lie(one, other), Way::Touch)
-        && is_told(how_two_lie(one, whole), Way::Within)
-        && is_told(how_two_lie(whole, other), Way::Around)
+    how_two_lie(one, other) == Some(Way::Touch)
+        && how_two_lie(one, whole) == Some(Way::Within)
+        && how_two_lie(whole, other) == Some(Way::Around)
 }
 
 impl Cuts {
     // A cut is one if both pieces are grounds: then the line between the corners lies inside.
     fn judge(&mut self, whole: &[u64], one: &[u64], other: &[u64]) {
-        if !is_ground(one).is_ok() || !is_ground(other).is_ok() {
+        if is_ground(one).is_err() || is_ground(other).is_err() {
             return;
         }
         self.cuts = self.cuts.wrapping_add(1);
@@ -46,7 +46,7 @@ impl Cuts {
         }
     }
 
-    // Between any two corners of a ring.
+    // Between any two corners of a ring. Ranges of places, since a stretch is named by the places of its ends.
     fn cut_all(&mut self, heap: Global, ring: &Ring) -> Result<(), AllocError> {
         let whole = ring.row(heap)?;
         for to in 0..ring.corners.len() {
@@ -61,11 +61,7 @@ impl Cuts {
 
     pub(crate) fn of_random_rings(heap: Global, seed: u64) -> Result<Self, AllocError> {
         let mut random = Random::new(seed);
-        let mut cuts = Cuts {
-            cuts: 0,
-            areas: 0,
-            ways: 0,
-        };
+        let mut cuts = Cuts::default();
         for _ in 0..RINGS {
             let field = Field::square(random.below(4).wrapping_add(5));
             let ring = Ring::random(heap, &mut random, TRIES, field)?;

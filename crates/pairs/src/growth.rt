@@ -1,6 +1,7 @@
 // Random rings: an edge, a third corner, and then more and more corners as long as they are grounds.
 use crate::random::{Field, Random};
 use crate::ring::Ring;
+use crate::segment::Segment;
 use crate::spot::Spot;
 use std::alloc::{AllocError, Global};
 
@@ -38,11 +39,11 @@ impl Ring {
     pub(crate) fn on_edge(
         heap: Global,
         random: &mut Random,
-        from: Spot,
-        to: Spot,
+        edge: Segment,
         tries: u32,
         field: Field,
     ) -> Result<Self, AllocError> {
+        let Segment { from, to } = edge;
         let mut ring = Ring::of(heap, &[from, to])?;
         for _ in 0..8u32 {
             let triangle = Ring::of(heap, &[from, to, random.spot(field)])?;
@@ -63,6 +64,6 @@ impl Ring {
     ) -> Result<Self, AllocError> {
         let from = random.spot(field);
         let to = random.spot(field);
-        Ring::on_edge(heap, random, from, to, tries, field)
+        Ring::on_edge(heap, random, Segment { from, to }, tries, field)
     }
 }

@@ -9,7 +9,6 @@ mod cuts;
 mod fault;
 mod fraction;
 mod growth;
-mod kind;
 mod motion;
 mod pair;
 mod random;
@@ -21,23 +20,35 @@ mod spot;
 mod tables;
 mod tally;
 
-use asking::{Wrong, ask_kind};
+use asking::{Asked, Wrong};
 use cuts::Cuts;
-use kind::KINDS;
 use tally::Tally;
 
-// Asks all kinds, and writes a line for each.
+// Asks all kinds, each from a seed of its own, and writes a line for each.
 fn ask_all(rt: &HostRuntime) -> anyhow::Result<Wrong> {
-    let mut wrong = Wrong::none();
-    let mut all = Tally::new();
+    let mut asked = Asked::default();
     Tally::show_head(rt)?;
-    let mut seed: u64 = 1;
-    for kind in KINDS {
-        let tally = ask_kind(rt, kind, seed, &mut wrong)?;
-        tally.show(rt, kind.name())?;
-        all.add(tally);
-        seed = seed.wrapping_add(1);
-    }
+    asked.ask(rt, 1, "random rings", bordering::random)?;
+    asked.ask(rt, 2, "an edge shared", bordering::shared_edge)?;
+    asked.ask(rt, 3, "a part of an edge", bordering::part_of_an_edge)?;
+    asked.ask(rt, 4, "a corner on an edge", bordering::corner_on_edge)?;
+    asked.ask(rt, 5, "a corner on a corner", bordering::corner_on_corner)?;
+    asked.ask(
+        rt,
+        6,
+        "corners on crossings",
+        bordering::corners_on_crossings,
+    )?;
+    asked.ask(rt, 7, "small beside large", bordering::nested)?;
+    asked.ask(rt, 8, "in a notch", built::in_a_notch)?;
+    asked.ask(rt, 9, "one ring twice", bordering::same_ring)?;
+    asked.ask(rt, 10, "combs interleaved", built::combs)?;
+    asked.ask(rt, 11, "spirals", built::spirals)?;
+    asked.ask(rt, 12, "pinwheels", built::pinwheels)?;
+    asked.ask(rt, 13, "bars across", built::bars)?;
+    asked.ask(rt, 14, "a slab cut in two", built::cut_slab)?;
+    asked.ask(rt, 15, "banks of a skew line", bordering::skew_banks)?;
+    let Asked { all, wrong } = asked;
     all.show(rt, "all")?;
     Ok(wrong)
 }

@@ -15,7 +15,7 @@ impl Ring {
         for (place, corner) in self.corners.iter().enumerate() {
             corners.push(*corner)?;
             if random.one_in(3) {
-                corners.push(corner.toward(self.corner_after(place), 1, 2))?;
+                corners.push(self.edge(place).part(1, 2))?;
             }
         }
         Ok(Ring { corners })
@@ -33,16 +33,9 @@ impl Ring {
         Ok(Ring { corners })
     }
 
-    // The spot lies on an edge: it is in line with the ends, and sees them in opposite directions.
+    // The spot lies on an edge.
     fn borders_on(&self, spot: Spot) -> bool {
-        for (place, corner) in self.corners.iter().enumerate() {
-            let from = spot.way_to(*corner);
-            let to = spot.way_to(self.corner_after(place));
-            if from.spanned(to) == 0 && from.along(to) <= 0 {
-                return true;
-            }
-        }
-        false
+        (0..self.corners.len()).any(|place| self.edge(place).has(spot))
     }
 
     // With a corner wherever one of the parts of an edge ends on the border of the other.
@@ -55,9 +48,9 @@ impl Ring {
         let mut corners = Vec::new(heap);
         for (place, corner) in self.corners.iter().enumerate() {
             corners.push(*corner)?;
-            let next = self.corner_after(place);
+            let edge = self.edge(place);
             for share in 1..parts {
-                let spot = corner.toward(next, i64::from(share), parts);
+                let spot = edge.part(i64::from(share), parts);
                 if other.borders_on(spot) {
                     corners.push(spot)?;
                 }

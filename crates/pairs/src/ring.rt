@@ -1,5 +1,6 @@
 // Rings of corners.
 use crate::motion::Motion;
+use crate::segment::Segment;
 use crate::spot::Spot;
 use ground::is_ground;
 use std::alloc::{AllocError, Global};
@@ -39,7 +40,7 @@ impl Ring {
     }
 
     pub(crate) fn corner(&self, place: usize) -> Spot {
-        self.corners.get(place).copied().unwrap_or(Spot::at(0, 0))
+        self.corners.get(place).copied().unwrap_or_default()
     }
 
     // The corner after a place; the first one after the last.
@@ -57,6 +58,14 @@ impl Ring {
             self.corner(self.corners.len().wrapping_sub(1))
         } else {
             self.corner(place.wrapping_sub(1))
+        }
+    }
+
+    // The edge that begins at a place.
+    pub(crate) fn edge(&self, place: usize) -> Segment {
+        Segment {
+            from: self.corner(place),
+            to: self.corner_after(place),
         }
     }
 

@@ -1,7 +1,7 @@
 // Which points two rings have, and the way that they lie, so far as that goes.
-use relate::Way;
+use terms::Way;
 
-#[derive(Clone, Copy)]
+#[derive(Clone, Copy, Default)]
 pub struct Seen {
     pub inside_both: bool,
     pub inside_first_only: bool,
@@ -13,16 +13,6 @@ pub struct Seen {
 }
 
 impl Seen {
-    pub(crate) fn nothing() -> Self {
-        Seen {
-            inside_both: false,
-            inside_first_only: false,
-            inside_second_only: false,
-            on_both: false,
-            edges_cross: false,
-        }
-    }
-
     pub(crate) fn note(&mut self, in_first: bool, in_second: bool) {
         match (in_first, in_second) {
             (true, true) => self.inside_both = true,

@@ -11,19 +11,6 @@ pub struct Segment {
     pub to: Spot,
 }
 
-// Twice the area that two ways span, above 0 if the other is to the left.
-fn spanned(way: Spot, other: Spot) -> Result<i128, Fault> {
-    let left = product(i128::from(way.x), i128::from(other.y))?;
-    let right = product(i128::from(way.y), i128::from(other.x))?;
-    difference(left, right)
-}
-
-fn along(way: Spot, other: Spot) -> Result<i128, Fault> {
-    let east = product(i128::from(way.x), i128::from(other.x))?;
-    let north = product(i128::from(way.y), i128::from(other.y))?;
-    sum(east, north)
-}
-
 // Where two segments that are not in line come to each other, and whether that is amid both of them.
 #[derive(Clone, Copy)]
 pub struct Contact {
@@ -47,32 +34,43 @@ impl Segment {
 
     // The edges of a ring.
     pub(crate) fn all(heap: Global, ring: &Ring) -> Result<Vec<Segment>, AllocError> {
-        let mut segments = Vec::new(heap);
-        for (place, corner) in ring.corners.iter().enumerate() {
-            segments.push(Segment {
-                from: *corner,
-                to: ring.corner_after(place),
-            })?;
+        (0..ring.corners.len())
+            .map(|place| ring.edge(place))
+            .collect(heap)
+    }
+
+    // So many of the parts of it, from its beginning on.
+    pub(crate) fn part(self, share: i64, parts: u32) -> Spot {
+        self.from.toward(self.to, share, parts)
+    }
+
+    // Gone the other way.
+    pub(crate) fn reversed(self) -> Self {
+        Segment {
+            from: self.to,
+            to: self.from,
         }
-        Ok(segments)
     }
 
     // The spot is in line with the ends, and sees them in opposite directions.
-    pub(crate) fn has(self, spot: Spot) -> Result<bool, Fault> {
+    pub(crate) fn has(self, spot: Spot) -> bool {
         let from = spot.way_to(self.from);
         let to = spot.way_to(self.to);
-        Ok(spanned(from, to)? == 0 && along(from, to)? <= 0)
+        from.spanned(to) == 0 && from.along(to) <= 0
     }
 
     // The only place that two segments, not in line, have in common.
     pub(crate) fn contact(self, other: Segment) -> Result<Option<Contact>, Fault> {
-        let bottom = spanned(self.way(), other.way())?;
+        let bottom = self.way().spanned(other.way());
         if bottom == 0 {
             return Ok(None);
         }
         let between = self.from.way_to(other.from);
-        let share = Fraction::of(spanned(between, other.way())?, bottom)?;
-        let other_share = Fraction::of(spanned(between, self.way())?, bottom)?;
+        let share = Fraction::of(i128::from(between.spanned(other.way())), i128::from(bottom))?;
+        let other_share = Fraction::of(
+            i128::from(between.spanned(self.way())),
+            i128::from(bottom),
+        )?;
         if !is_share(share) || !is_share(other_share) {
             return Ok(None);
         }

@@ -1,5 +1,5 @@
 // A whole spot of the plane, or the way from one to another. All numbers here are far below 2^30, so that nothing wraps.
-#[derive(Clone, Copy)]
+#[derive(Clone, Copy, Default)]
 pub struct Spot {
     pub x: i64,
     pub y: i64,

@@ -1,8 +1,8 @@
 // How often each way came.
 use crate::seen::Seen;
-use relate::Way;
+use terms::Way;
 
-#[derive(Clone, Copy)]
+#[derive(Clone, Copy, Default)]
 pub struct Tally {
     pairs: u64,
     // By the number of the way.
@@ -12,23 +12,12 @@ pub struct Tally {
 }
 
 impl Tally {
-    pub(crate) fn new() -> Self {
-        Tally {
-            pairs: 0,
-            ways: [0; 6],
-            uncrossed: 0,
-        }
-    }
-
     pub(crate) fn note(&mut self, seen: Seen) {
         let way = seen.way();
         self.pairs = self.pairs.wrapping_add(1);
-        for (number, count) in self.ways.iter_mut().enumerate() {
-            if number as u64 == way.number() {
-                *count = count.wrapping_add(1);
-            }
-        }
-        if matches!(way, Way::Over) && !seen.edges_cross {
+        let count = &mut self.ways[way as usize];
+        *count = count.wrapping_add(1);
+        if way == Way::Over && !seen.edges_cross {
             self.uncrossed = self.uncrossed.wrapping_add(1);
         }
     }
