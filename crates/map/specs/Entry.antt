@@ -4,7 +4,6 @@ use Rattle.plane.specs.Lists.{pick}
 use Rattle.ground.specs.Rows.{corners}
 use Rattle.map.specs.House.{put, drop_it, at_point, how_lies, all_that, area_of}
 use Rattle.map.specs.Promise.{Event, said, next, Act, shows, done, refused}
-use Rattle.map.specs.Sizes.{memory_length}
 use Rattle.map.specs.Machine.{own}
 use Rattle.map.specs.declared.told.Told.{Told}
 use Rattle.map.specs.declared.told.Told.TheVariants.{Shows, Done, No}
@@ -28,9 +27,9 @@ StepSays memory kind a b c row out true r memory₁ out₁ =
     (memory₁ ≡ (own.step memory (event_of kind a b c row)).memory) × ActTold (own.step memory (event_of kind a b c row)).act r out out₁
 StepSays memory kind a b c row out false r memory₁ out₁ = (r ≡ No 0) × (memory₁ ≡ memory) × (out₁ ≡ out)
 
--- what was lent fits, whatever the kind of the event
-abbrev pub lent_fits : (memory row out : List ℕ) → Bool
-lent_fits memory row out = (length memory == memory_length && (nat_le (length row) 512 && length row % 2 == 0)) && nat_le 2 (length out)
+-- what was lent beside the memory fits, whatever the kind of the event
+abbrev pub lent_fits : (row out : List ℕ) → Bool
+lent_fits row out = (nat_le (length row) 512 && length row % 2 == 0) && nat_le 2 (length out)
 
 unfoldable pub step_fits : (memory : List ℕ) (kind : ℕ) (row out : List ℕ) → Bool
 step_fits memory kind row out =

@@ -9,7 +9,7 @@ ghost use Rattle.map.specs.Code.{Takes};
 
 use crate::act::Act;
 use crate::head::{count, end_of_records};
-use crate::layout::{AT_CORNERS, AT_GROUNDS, COUNT_IN_RECORD};
+use crate::layout::{AT_CORNERS, AT_GROUNDS, COUNT_IN_RECORD, Memory};
 use crate::records::{end_of_record, seek};
 use terms::Refusal;
 
@@ -21,8 +21,7 @@ struct Behind {
 }
 
 // The records behind the one at `place`, if that lies within what the head counts.
-fn records_behind(memory: &[u64], place: usize) -> Option<Behind>
-    requires { length memory.now ≡ memory_length }
+fn records_behind(memory: &Memory, place: usize) -> Option<Behind>
     ensures { MatchOption result (within_count memory.now place ≡ false) (λ b. (within_count memory.now place ≡ true) × (b.from ≡ behind memory.now place) × (b.end ≡ end_of memory.now)) }
 {
     let from = end_of_record(memory, place)?;
@@ -34,8 +33,7 @@ fn records_behind(memory: &[u64], place: usize) -> Option<Behind>
 }
 
 // Drops the ground with this number. In a memory that never held one there, it is not there.
-pub(crate) fn drop_ground(memory: &mut [u64], number: u64) -> Act
-    requires { length memory.old ≡ memory_length }
+pub(crate) fn drop_ground(memory: &mut Memory, number: u64) -> Act
     ensures { Takes result memory.new (acts memory.old (said (drop_it number))) }
 {
     let Ok(place) = seek(memory, number) else {

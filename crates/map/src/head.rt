@@ -3,11 +3,12 @@ ghost use Rattle.std.specs.Prelude.{◌≡◌, ◌<◌, ◌≤◌, length, Match
 ghost use Rattle.map.specs.Sizes.{memory_length};
 ghost use Rattle.map.specs.Memory.{end_of, counted};
 
-use crate::layout::{AT_CORNERS, AT_CURSOR, AT_GROUNDS, HEAD_LENGTH, MEMORY_LENGTH, RECORD_LENGTH};
+use crate::layout::{
+    AT_CORNERS, AT_CURSOR, AT_GROUNDS, HEAD_LENGTH, MEMORY_LENGTH, Memory, RECORD_LENGTH,
+};
 
 // Where the records end, by what the head says; none if that is not in the memory.
-pub(crate) fn end_of_records(memory: &[u64]) -> Option<usize>
-    requires { length memory.now ≡ memory_length }
+pub(crate) fn end_of_records(memory: &Memory) -> Option<usize>
     ensures { MatchOption result (memory_length < end_of memory.now) (λ e. (e ≡ end_of memory.now) × (e ≤ memory_length)) }
 {
     let grounds = memory[AT_GROUNDS];
@@ -23,8 +24,7 @@ pub(crate) fn end_of_records(memory: &[u64]) -> Option<usize>
 }
 
 // Says how many grounds and corners there are now, and that no listing is open.
-pub(crate) fn count(memory: &mut [u64], grounds: u64, corners: u64)
-    requires { length memory.old ≡ memory_length }
+pub(crate) fn count(memory: &mut Memory, grounds: u64, corners: u64)
     ensures { memory.new ≡ counted grounds corners memory.old }
 {
     memory[AT_GROUNDS] = grounds;

@@ -3,6 +3,8 @@
 // So many numbers of 64 bits.
 pub const MEMORY_LENGTH: usize = 262144;
 
+pub(crate) type Memory = [u64; MEMORY_LENGTH];
+
 pub const MOST_GROUNDS: u64 = 1024;
 
 pub const MOST_CORNERS: u64 = 32768;

@@ -14,6 +14,7 @@ mod owner;
 mod promises;
 mod putting;
 mod records;
+mod row;
 mod scanning;
 mod told;
 

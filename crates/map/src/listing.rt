@@ -8,15 +8,14 @@ ghost use Rattle.map.specs.House.{at_point};
 ghost use Rattle.map.specs.Code.{Takes, point_of};
 
 use crate::act::Act;
-use crate::layout::{AT_A, AT_B, AT_CURSOR, AT_GROUNDS, AT_LEFT, AT_W, HEAD_LENGTH};
+use crate::layout::{AT_A, AT_B, AT_CURSOR, AT_GROUNDS, AT_LEFT, AT_W, HEAD_LENGTH, Memory};
 use crate::scanning::scan;
 use terms::{Point, Refusal};
 
 // Goes through `left` records from `place` on: shows the number of the first ground that has the point, and has the cursor stand behind it;
 // or ends the listing.
-fn tell(memory: &mut [u64], p: Point, left: u64, place: u64) -> Act
-    requires memory_len { length memory.old ≡ memory_length }
-    requires p_value { small_point (point_of p) ≡ true }
+fn tell(memory: &mut Memory, p: Point, left: u64, place: u64) -> Act
+    requires { small_point (point_of p) ≡ true }
     ensures { Takes result memory.new (tell_step memory.old (point_of p) (scan memory.old (point_of p) left place)) }
 {
     let Some(hit) = scan(memory, p, left, place) else {
@@ -39,8 +38,7 @@ fn in_range(p: Point) -> bool
 }
 
 // Begins a listing; one that was open is given up.
-pub(crate) fn list_at(memory: &mut [u64], p: Point) -> Act
-    requires { length memory.old ≡ memory_length }
+pub(crate) fn list_at(memory: &mut Memory, p: Point) -> Act
     ensures { Takes result memory.new (acts memory.old (said (at_point p.a p.b p.w))) }
 {
     if !in_range(p) {
@@ -51,8 +49,7 @@ pub(crate) fn list_at(memory: &mut [u64], p: Point) -> Act
 }
 
 // Goes on with the listing that is open; where none is, it is done.
-pub(crate) fn go_on(memory: &mut [u64]) -> Act
-    requires { length memory.old ≡ memory_length }
+pub(crate) fn go_on(memory: &mut Memory) -> Act
     ensures { Takes result memory.new (acts memory.old next) }
 {
     let cursor = memory[AT_CURSOR];

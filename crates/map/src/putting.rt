@@ -13,26 +13,25 @@ ghost use Rattle.map.specs.Code.{Takes, room_for, written};
 
 use crate::act::Act;
 use crate::head::{count, end_of_records};
-use crate::layout::{AT_CORNERS, AT_GROUNDS, MOST_CORNERS, MOST_GROUNDS, RECORD_LENGTH};
+use crate::layout::{AT_CORNERS, AT_GROUNDS, MOST_CORNERS, MOST_GROUNDS, Memory, RECORD_LENGTH};
 use crate::records::seek;
+use crate::row::Row;
 use ground::{Extent, is_ground};
 use terms::Refusal;
 
 // The box of a row that is a ground.
-fn ground_box(row: &[u64]) -> Option<Extent>
-    requires { length row.now % 2 ≡ 0 }
-    ensures { MatchOption result (a_shape (shape_of row.now) ≡ false) (λ e. (a_shape (shape_of row.now) ≡ true) × (e ≡ box_of (shape_of row.now))) }
+fn ground_box(row: Row<'_>) -> Option<Extent>
+    ensures { MatchOption result (a_shape (shape_of row.entry.numbers.now) ≡ false) (λ e. (a_shape (shape_of row.entry.numbers.now) ≡ true) × (e ≡ box_of (shape_of row.entry.numbers.now))) }
 {
-    let Ok(()) = is_ground(row) else {
+    let Ok(()) = is_ground(row.numbers) else {
         return None;
     };
-    Extent::of(row)
+    Extent::of(row.numbers)
 }
 
 // Where the records end, if there is room for a ground with so many corners, and `place` lies within the records.
-fn end_with_room(memory: &[u64], place: usize, corners: u64) -> Option<usize>
-    requires memory_len { length memory.now ≡ memory_length }
-    requires corners_le_memory_length { corners ≤ memory_length }
+fn end_with_room(memory: &Memory, place: usize, corners: u64) -> Option<usize>
+    requires { corners ≤ memory_length }
     ensures { MatchOption result (room_for memory.now place corners ≡ false) (λ e. (room_for memory.now place corners ≡ true) × (e ≡ end_of memory.now)) }
 {
     let end = end_of_records(memory)?;
@@ -46,8 +45,8 @@ fn end_with_room(memory: &[u64], place: usize, corners: u64) -> Option<usize>
 }
 
 // Writes a record over what stands at `place`: its start, and then the corners.
-fn write_record(memory: &mut [u64], place: usize, number: u64, bounds: Extent, row: &[u64])
-    requires { place + (record_length + length row.now) ≤ length memory.old }
+fn write_record(memory: &mut Memory, place: usize, number: u64, bounds: Extent, row: &[u64])
+    requires { place + (record_length + length row.now) ≤ memory_length }
     ensures { memory.new ≡ paste memory.old place (written number bounds row.now) (record_length + length row.now) }
 {
     let start = [
@@ -66,11 +65,8 @@ fn write_record(memory: &mut [u64], place: usize, number: u64, bounds: Extent, r
 }
 
 // Puts a ground under a number. Each check hands on what the next one needs, and nothing moves before the last.
-pub(crate) fn put_ground(memory: &mut [u64], number: u64, row: &[u64]) -> Act
-    requires memory_len { length memory.old ≡ memory_length }
-    requires row_len_bound { length row.now ≤ 512 }
-    requires row_len { length row.now % 2 ≡ 0 }
-    ensures { Takes result memory.new (acts memory.old (said (put number (shape_of row.now)))) }
+pub(crate) fn put_ground(memory: &mut Memory, number: u64, row: Row<'_>) -> Act
+    ensures { Takes result memory.new (acts memory.old (said (put number (shape_of row.entry.numbers.now)))) }
 {
     let Err(place) = seek(memory, number) else {
         return Act::Refused(Refusal::Taken);
@@ -78,6 +74,7 @@ pub(crate) fn put_ground(memory: &mut [u64], number: u64, row: &[u64]) -> Act
     let Some(bounds) = ground_box(row) else {
         return Act::Refused(Refusal::NoGround);
     };
+    let row = row.numbers;
     let corners = (row.len() / 2) as u64;
     let Some(end) = end_with_room(memory, place, corners) else {
         return Act::Refused(Refusal::NoRoom);

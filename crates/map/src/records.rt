@@ -4,12 +4,13 @@ ghost use Rattle.map.specs.Sizes.{memory_length, head_length, at_grounds};
 ghost use Rattle.map.specs.Memory.{whole_at, behind, seek};
 ghost use Rattle.map.specs.Code.{Found};
 
-use crate::layout::{AT_GROUNDS, COUNT_IN_RECORD, HEAD_LENGTH, MEMORY_LENGTH, RECORD_LENGTH};
+use crate::layout::{
+    AT_GROUNDS, COUNT_IN_RECORD, HEAD_LENGTH, MEMORY_LENGTH, Memory, RECORD_LENGTH,
+};
 use std::cmp::Ordering;
 
 // Where the record at `place` ends, which is where the next one begins; none if it does not lie in the memory as a whole.
-pub(crate) fn end_of_record(memory: &[u64], place: usize) -> Option<usize>
-    requires { length memory.now ≡ memory_length }
+pub(crate) fn end_of_record(memory: &Memory, place: usize) -> Option<usize>
     ensures { MatchOption result (whole_at memory.now place ≡ false) (λ e. (whole_at memory.now place ≡ true) × (e ≡ behind memory.now place)) }
 {
     if place > MEMORY_LENGTH - RECORD_LENGTH {
@@ -23,8 +24,7 @@ pub(crate) fn end_of_record(memory: &[u64], place: usize) -> Option<usize>
 }
 
 // The place of the record with this number, or else the place where it would stand.
-pub(crate) fn seek(memory: &[u64], number: u64) -> Result<usize, usize>
-    requires { length memory.now ≡ memory_length }
+pub(crate) fn seek(memory: &Memory, number: u64) -> Result<usize, usize>
     ensures { Found result (seek memory.now (slice_index memory.now at_grounds) head_length number) }
 {
     let mut left = memory[AT_GROUNDS];

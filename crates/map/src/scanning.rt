@@ -7,7 +7,7 @@ ghost use Rattle.map.specs.Machine.{small_point};
 ghost use Rattle.map.specs.Code.{point_of, box_at, Hits};
 
 use crate::layout::{
-    EAST_IN_RECORD, NORTH_IN_RECORD, RECORD_LENGTH, SOUTH_IN_RECORD, WEST_IN_RECORD,
+    EAST_IN_RECORD, Memory, NORTH_IN_RECORD, RECORD_LENGTH, SOUTH_IN_RECORD, WEST_IN_RECORD,
 };
 use crate::records::end_of_record;
 use ground::{Extent, has_point};
@@ -22,8 +22,8 @@ pub struct Hit {
 }
 
 // The box of the record at `place`.
-fn box_at(memory: &[u64], place: usize) -> Extent
-    requires { place + record_length ≤ length memory.now }
+fn box_at(memory: &Memory, place: usize) -> Extent
+    requires { place + record_length ≤ memory_length }
     ensures { result ≡ box_at memory.now place }
 {
     Extent {
@@ -36,8 +36,7 @@ fn box_at(memory: &[u64], place: usize) -> Extent
 
 // Whether the ground of the record from `place` to `end` has the point. Its box comes first: four comparisons with the box around the point
 // pass over most grounds. Numbers that are no corners' make no ground.
-fn has_at(memory: &[u64], place: usize, end: usize, p: Point, around: Extent) -> bool
-    requires memory_len { length memory.now ≡ memory_length }
+fn has_at(memory: &Memory, place: usize, end: usize, p: Point, around: Extent) -> bool
     requires place_value { whole_at memory.now place ≡ true }
     requires end_value { end ≡ behind memory.now place }
     requires p_value { small_point (point_of p) ≡ true }
@@ -49,9 +48,8 @@ fn has_at(memory: &[u64], place: usize, end: usize, p: Point, around: Extent) ->
 }
 
 // The first of `left` records from `place` on whose ground has the point.
-pub(crate) fn scan(memory: &[u64], p: Point, left: u64, place: u64) -> Option<Hit>
-    requires memory_len { length memory.now ≡ memory_length }
-    requires p_value { small_point (point_of p) ≡ true }
+pub(crate) fn scan(memory: &Memory, p: Point, left: u64, place: u64) -> Option<Hit>
+    requires { small_point (point_of p) ≡ true }
     ensures { Hits memory.now result (scan memory.now (point_of p) left place) }
 {
     let around = Extent::around(p)?;

@@ -1,5 +1,6 @@
-use Rattle.std.proofs.Common.{◌≡◌, ℕ, Bool, true, false, List, [], ◌∷◌, ◌++◌, cond, is_ok, Ok, Err, Result, vec_items, refl, sym, ◌∙◌, subst, append_assoc, append-nil, rules}
+use Rattle.std.proofs.Common.{◌≡◌, ℕ, Bool, true, false, List, [], ◌∷◌, ◌++◌, cond, length, is_ok, Ok, Err, Result, vec_items, refl, sym, ◌∙◌, subst, append_assoc, append-nil, rules}
 use Rattle.std.specs.Result.{result_and}
+use Rattle.map.specs.Sizes.{memory_length}
 use Rattle.map.specs.Asking.{EndSaid, End, RanThrough}
 use Rattle.map.specs.declared.failing.AskError.{AskError}
 use Rattle.map.specs.declared.failing.AskError.TheVariants.{OutOfMemory}
@@ -19,10 +20,9 @@ wanting : (r : Result (Unit {0}) AskError) (e : End) (s t : List ℕ) → r ≡ 
 wanting r e s t h = rw h tt
 
 pub loop-done-init : goal.loop-done-init
-loop-done-init c = (
-  c.act-done.auto.memory ∙ c.requires,
-  ([], [], sym (append-nil _), (λ _. refl), way_begins _ _ _ _ c.requires c.act-done.ensures),
-)
+loop-done-init c =
+    let long : length c.args.memory.now ≡ memory_length = search rules in
+    (search rules, ([], [], sym (append-nil _), (λ _. refl), way_begins _ _ _ _ long c.act-done.ensures))
 
 pub loop-done-smaller : goal.loop-done-smaller
 loop-done-smaller c = rw c.in-Shows.is (still_falls c.in-Shows.number _ _ _ c.loop-done.invariant.0 c.act-done-in-Shows.ensures)
@@ -34,7 +34,7 @@ loop-done-preserved c =
     let n : ℕ = c.in-Shows.number in
     let more = added (vec_items c.loop-done.shown) (vec_items c.push.new.self) w.1 n (is_ok c.push.result) c.push.ensures.items in
     let joined = append_assoc (vec_items c.args.shown.now) w.1 more.0 in (
-      c.act-done-in-Shows.auto.memory ∙ c.loop-done.invariant.0,
+      search rules,
       (
         w.0 ++ n ∷ [],
         w.1 ++ more.0,

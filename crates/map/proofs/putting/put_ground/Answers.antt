@@ -14,8 +14,8 @@ returns-in_default-ground_box c = search rules
 
 pub returns-in_default-end_with_room : goal.returns-in_default-end_with_room
 unfolding acts put_step
-returns-in_default-end_with_room c = let n = shape_many c.args.row.now in search rules
+returns-in_default-end_with_room c = let n = shape_many c.args.row.numbers.now in search rules
 
 pub returns : goal.returns
 unfolding acts put_step
-returns c = let n = shape_many c.args.row.now in search (rules, put_record)
+returns c = let n = shape_many c.args.row.numbers.now in search (rules, put_record)
