@@ -1,14 +1,14 @@
 -- What is answered to a command.
-use Rattle.std.specs.Prelude.{ℕ, cond, List, [], ◌∷◌, Some, None, vec_items, Option, ◌==◌}
-use Rattle.map.specs.declared.asking.End.{End}
-use Rattle.map.specs.declared.asking.End.TheVariants as ends
+use Rattle.std.specs.Prelude.{ℕ, cond, List, [], ◌∷◌, Some, None, Ok, Err, vec_items, Option, ◌==◌}
+use Rattle.map.specs.Asking.{End}
 use Rattle.phrase.specs.Commands.{Said, put, drops, at_point, how_lie, all_that_lie, area_of, help, quit, nothing}
 use Rattle.phrase.specs.Numbers.{bind}
 use Rattle.phrase.specs.declared.answer.Answer.{Answer}
 use Rattle.phrase.specs.declared.answer.Answer.TheVariants.{Done, Refused, Point, Lie, AllLie, Area, NotUnderstood}
 use Rattle.phrase.specs.declared.answer.Neighbour.{Neighbour}
-use Rattle.phrase.specs.declared.way.Way.{Way}
-use Rattle.phrase.specs.declared.way.Way.TheVariants.{Apart, Touch, Within, Around, Same, Over}
+use Rattle.terms.specs.Refusals.{refusal_number}
+use Rattle.terms.specs.declared.way.Way.{Way}
+use Rattle.terms.specs.declared.way.Way.TheVariants.{Apart, Touch, Within, Around, Same, Over}
 
 -- an answer as it is meant
 pub data Reply : Type 0 where
@@ -23,8 +23,8 @@ pub data Reply : Type 0 where
 -- what an answer says: of a row, what is in it
 abbrev pub replied : Answer → Reply
 replied Done = done
-replied (Refused reason) = refused reason
-replied (Point a b w grounds) = point a b w (vec_items grounds)
+replied (Refused why) = refused (refusal_number why)
+replied (Point p grounds) = point p.a p.b p.w (vec_items grounds)
 replied (Lie first second way) = lie first second way
 replied (AllLie number rows) = all_lie number (vec_items rows)
 replied (Area number twice) = area number twice
@@ -77,5 +77,5 @@ told_of nothing shown = done
 
 -- to a command that ended so
 abbrev pub answer_of : Said → End → List ℕ → Reply
-answer_of c ends.Done shown = told_of c shown
-answer_of c (ends.Refused k) shown = refused k
+answer_of c (Ok d) shown = told_of c shown
+answer_of c (Err why) shown = refused (refusal_number why)

@@ -3,18 +3,19 @@ ghost use Rattle.std.specs.Prelude.{◌≡◌, IfOk};
 ghost use Rattle.phrase.specs.Commands.{said};
 ghost use Rattle.dialogue.specs.Replies.{replied, way_told, all_told, neighbours, area_told, answer_of};
 
-use crate::neighbours::{read_neighbours, way_of};
-use map::End;
+use crate::neighbours::read_neighbours;
 use phrase::{Answer, Command};
 use std::alloc::{AllocError, Global};
+use terms::{Refusal, Way};
 
+#[tactic(auto, using(crate::proofs::Pairing::way_found, crate::proofs::Pairing::no_way))]
 fn way_told(first: u64, second: u64, shown: &[u64]) -> Answer
     ensures { replied result ≡ way_told first second shown.now }
 {
     let [number] = shown else {
         return Answer::Done;
     };
-    let Some(way) = way_of(*number) else {
+    let Ok(way) = Way::try_from(*number) else {
         return Answer::Done;
     };
     Answer::Lie { first, second, way }
@@ -41,23 +42,21 @@ fn area_told(number: u64, shown: &[u64]) -> Answer
     }
 }
 
-// The answer to a command that ended so, after these numbers were shown.
+// The answer to a command that ended so, done or refused, after these numbers were shown.
 pub fn answer_to(
     heap: Global,
     command: &Command,
-    end: End,
+    ended: Result<(), Refusal>,
     shown: Vec<u64>,
 ) -> Result<Answer, AllocError>
-    ensures { IfOk result (λ a. replied a ≡ answer_of (said command.now) end shown.items) }
+    ensures { IfOk result (λ a. replied a ≡ answer_of (said command.now) ended shown.items) }
 {
-    if let End::Refused(reason) = end {
-        return Ok(Answer::Refused { reason });
+    if let Err(why) = ended {
+        return Ok(Answer::Refused(why));
     }
     match command {
-        Command::AtPoint { a, b, w } => Ok(Answer::Point {
-            a: *a,
-            b: *b,
-            w: *w,
+        Command::AtPoint(point) => Ok(Answer::Point {
+            point: *point,
             grounds: shown,
         }),
         Command::HowLie { first, second } => Ok(way_told(*first, *second, shown.as_slice())),

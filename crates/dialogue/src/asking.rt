@@ -18,11 +18,7 @@ pub fn request_of(command: &Command) -> Option<Request<'_>>
             row: row.as_slice(),
         }),
         Command::Drop { number } => Some(Request::Drop { number: *number }),
-        Command::AtPoint { a, b, w } => Some(Request::AtPoint {
-            a: *a,
-            b: *b,
-            w: *w,
-        }),
+        Command::AtPoint(point) => Some(Request::AtPoint(*point)),
         Command::HowLie { first, second } => Some(Request::HowLie {
             first: *first,
             second: *second,

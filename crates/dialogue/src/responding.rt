@@ -1,15 +1,27 @@
 // A command, asked of the machine, and its answer as text.
-ghost use Rattle.std.specs.Prelude.{◌≡◌, IfOk, vec_items};
+ghost use Rattle.std.specs.Prelude.{◌≡◌, IfOk, MatchResult, Some, None, vec_items};
 ghost use Rattle.phrase.specs.Answers.{unread_line};
 ghost use Rattle.phrase.specs.Commands.{said};
 ghost use Rattle.dialogue.specs.Requests.{request_of};
-ghost use Rattle.dialogue.specs.Responses.{Responded};
+ghost use Rattle.dialogue.specs.Responses.{ended_as, Responded};
 
 use crate::answering::answer_to;
 use crate::asking::request_of;
-use map::Machine;
+use map::{AskError, Machine};
 use phrase::{Answer, Command, write_answer};
 use std::alloc::{AllocError, Global};
+use terms::Refusal;
+
+// How a request ended, where memory was not wanting.
+fn end_of(asked: Result<(), AskError>) -> Result<Result<(), Refusal>, AllocError>
+    ensures { MatchResult result (λ e. ended_as asked ≡ Some e) (λ _. ended_as asked ≡ None) }
+{
+    match asked {
+        Ok(()) => Ok(Ok(())),
+        Err(AskError::Refused(why)) => Ok(Err(why)),
+        Err(AskError::OutOfMemory) => Err(AllocError),
+    }
+}
 
 // Asks the machine, and writes what it answered; help, quitting and an empty line have no answer here.
 pub fn respond(
@@ -23,8 +35,8 @@ pub fn respond(
         return Ok(Vec::new(heap));
     };
     let mut shown = Vec::new(heap);
-    let end = machine.ask(request, &mut shown)?;
-    let answer = answer_to(heap, command, end, shown)?;
+    let ended = end_of(machine.ask(request, &mut shown))?;
+    let answer = answer_to(heap, command, ended, shown)?;
     write_answer(heap, &answer)
 }
 

@@ -1,21 +1,15 @@
-use Rattle.std.proofs.Common.{◌<◌, ◌≤◌, length, vec_items, arith, rules, true-eqb, false-eqb}
-use Rattle.dialogue.proofs.Pairing.{pair_joins, pair_fails, none_left, one_left}
+use Rattle.std.proofs.Common.{◌≡◌, ◌%◌, ◌<◌, length, sym, ap, ◌∙◌, rules}
+use Rattle.phrase.proofs.Sofar.{prefixed, none_before}
+use Rattle.dialogue.proofs.Pairing.{paired, left_over, all_pairs}
 use Rattle.dialogue.proofs.neighbours.read_neighbours.Goals as goal
 
-pub returns-in_default-way_of : goal.returns-in_default-way_of
-returns-in_default-way_of c =
-    let two : 2 ≤ length c.loop-left.left.now = search rules in
-    pair_fails c.loop-left.left.now _ _ c.loop-left.invariant two c.in_default-way_of.ensures
+pub returns-in_default : goal.returns-in_default
+returns-in_default c =
+    let some : 0 < length c.args.shown.now % 2 = search rules in
+    sym (left_over c.args.shown.now some)
 
-pub loop-left-preserved : goal.loop-left-preserved
-loop-left-preserved c =
-    let two : 2 ≤ length c.loop-left.left.now = search rules in
-    pair_joins c.loop-left.left.now _ _ c.loop-left.invariant c.in-Some.way (vec_items c.push.new.self) two c.in-Some.ensures c.in_ok-push.ensures.items
-
-pub returns-then-is_empty : goal.returns-then-is_empty
-returns-then-is_empty c = none_left c.loop-left.left.now _ _ c.loop-left.invariant (true-eqb _ 0 c.if-is_empty.ensures)
-
-pub returns : goal.returns
-returns c =
-    let few : length c.loop-left.left.now < 2 = search rules in
-    one_left c.loop-left.left.now _ _ c.loop-left.invariant (omega (arith, false-eqb _ 0 c.if-is_empty.ensures)) few
+pub loop-other-init : goal.loop-other-init
+loop-other-init c =
+    let even : length c.args.shown.now % 2 ≡ 0 = search rules in
+    ap (λ rows. prefixed rows (paired c.as_chunks.result.0.now)) c.new-rows.ensures.items
+    ∙ (none_before (paired c.as_chunks.result.0.now) ∙ (ap paired c.as_chunks.ensures.front ∙ all_pairs c.args.shown.now even))
