@@ -1,4 +1,3 @@
-pub mod Lines
 pub mod Outcomes
 pub mod Replies
 pub mod Requests

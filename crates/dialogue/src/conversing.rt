@@ -1,30 +1,13 @@
 // Lines of an input, to its end, each answered before the next is read.
-ghost use Rattle.std.specs.Prelude.{◌≡◌};
-ghost use Rattle.dialogue.specs.Lines.{unended};
-
 use crate::help::HELP;
 use crate::outcome::Outcome;
 use crate::replying::reply_to;
 use map::Machine;
 use std::alloc::Global;
-use std::io::{BufRead, Write};
-
-// The line without the newline at its end.
-pub fn without_newline(line: &[u8]) -> &[u8]
-    ensures { result.now ≡ unended line.now }
-{
-    let n = line.len();
-    if n == 0 {
-        return line;
-    }
-    if line[n - 1] != b'\n' {
-        return line;
-    }
-    &line[0..n - 1]
-}
+use std::io::{BufRead, BufReader, Write};
 
 // Answers each line before it reads the next, till there are no more, or one says to quit.
-pub fn converse<R: BufRead + Drop, W: Write>(
+fn answer_lines<R: BufRead + Drop, W: Write>(
     heap: Global,
     machine: &mut Machine,
     input: R,
@@ -39,4 +22,12 @@ pub fn converse<R: BufRead + Drop, W: Write>(
         }
     }
     Ok(())
+}
+
+// Answers the lines of standard input.
+pub fn converse(rt: &HostRuntime, machine: &mut Machine) -> anyhow::Result<()> {
+    let heap = rt.alloc();
+    let input = BufReader::new(heap, rt.stdin())?;
+    let mut out = rt.stdout();
+    answer_lines(heap, machine, input, &mut out)
 }

@@ -12,9 +12,10 @@ mod responding;
 
 pub use answering::answer_to;
 pub use asking::request_of;
-pub use conversing::{converse, without_newline};
+pub use conversing::converse;
 pub use help::HELP;
 pub use neighbours::read_neighbours;
 pub use outcome::Outcome;
+pub use phrase::without_newline;
 pub use replying::reply_to;
 pub use responding::{not_understood, respond};

@@ -1,5 +1,5 @@
 // What a line comes to.
-#[derive(Drop)]
+#[derive(PartialEq, Eq, Debug, Drop)]
 pub enum Outcome {
     // What is answered.
     Text(Vec<u8>),

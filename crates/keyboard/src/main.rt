@@ -3,14 +3,10 @@
 
 use dialogue::converse;
 use map::Machine;
-use std::io::BufReader;
 
 fn run(rt: &HostRuntime) -> anyhow::Result<()> {
-    let heap = rt.alloc();
-    let mut machine = Machine::new(heap)?;
-    let input = BufReader::new(heap, rt.stdin())?;
-    let mut out = rt.stdout();
-    converse(heap, &mut machine, input, &mut out)
+    let mut machine = Machine::new(rt.alloc())?;
+    converse(rt, &mut machine)
 }
 
 fn main(rt: HostRuntime) -> anyhow::Result<()> {
