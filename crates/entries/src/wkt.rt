@@ -13,7 +13,7 @@ fn closed_ring(heap: Global, row: &[u64]) -> Result<Vec<u64>, AllocError>
     Ok(ring)
 }
 
-// What stands before number `i` of a ring.
+// What stands before number `i` of a ring. By its place, and not corner by corner: a row with a number left over is written too.
 fn gap(i: usize) -> &'static str
     ensures { (x : ℕ) → result.now ++ decimal x ≡ coordinate i x }
 {
@@ -35,7 +35,7 @@ fn ring_text(heap: Global, ring: &[u64]) -> Result<String, AllocError>
     Ok(out)
 }
 
-// `17 POLYGON((120 400, 180 420, 150 470, 120 400))`, of the row that goes round once.
+// `17 POLYGON((120 400, 180 420, 150 470, 120 400))`, of the row that goes round once. A text and no `Display`: the ring is closed first, which takes memory.
 pub fn write_wkt(heap: Global, number: u64, row: &[u64]) -> Result<String, AllocError>
     ensures { IfOk result (λ s. string_bytes s ≡ wkt number row.now) }
 {

@@ -12,6 +12,7 @@ const MOST_COLUMNS: u64 = 78;
 const MOST_ROWS: u64 = 36;
 
 // How many squares of this step a length takes, one at least.
+#[tactic(auto, using(crate::proofs::Counting::enough_steps))]
 fn squares(length: u64, step: u64) -> u32
     requires some { 1 ≤ step }
     requires few { length ≤ 78 * step }

@@ -51,9 +51,9 @@ impl Window {
             return Err(Flaw::TooManySquares);
         }
         // No other square lies farther out than the one in the north-east.
-        match self.middle(self.columns - 1, 0) {
-            Some(_) => Ok(self),
-            None => Err(Flaw::TooFar),
+        if self.middle(self.columns - 1, 0).is_none() {
+            return Err(Flaw::TooFar);
         }
+        Ok(self)
     }
 }

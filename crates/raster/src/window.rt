@@ -19,6 +19,7 @@ pub struct Window {
 
 impl Window {
     // How far in the east the western side of a column lies; behind the last one, the window's eastern side.
+    #[tactic(auto, using(crate::proofs::Sides::side_bound))]
     pub(crate) fn side_across(self, column: u32) -> u128
         ensures value { result ≡ side_across self column }
         ensures bound { result < 2 ^ 97 }
@@ -27,6 +28,7 @@ impl Window {
     }
 
     // How far in the north the northern side of a row lies, counted from the north; behind the last one, the window's southern side.
+    #[tactic(auto, using(crate::proofs::Sides::side_bound))]
     pub(crate) fn side_up(self, row: u32) -> u128
         ensures value { result ≡ side_up self row }
         ensures bound { result < 2 ^ 97 }
