@@ -1,7 +1,6 @@
 mod Coordinates
 mod Cuts
 mod Digits
-mod Fronts
 mod Numbering
 mod ReadBack
 mod Rings
