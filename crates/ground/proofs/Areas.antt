@@ -1,5 +1,5 @@
 -- Areas by cells: a ground has so much area as there are cells with their middles inside.
-use Rattle.std.proofs.Common.{◌≡◌, ℕ, suc, ◌+◌, ◌-◌, ◌*◌, ◌<◌, ◌≤◌, Bool, true, false, not, ◌&&◌, ltb, List, [], ◌∷◌, length, sym, refl, ap, ◌∙◌, ap₂, ⊎_elim, le_of_lt, arith}
+use Rattle.std.proofs.Common.{◌≡◌, ℕ, suc, ◌+◌, ◌-◌, ◌*◌, ◌<◌, ◌≤◌, Bool, true, false, not, ◌&&◌, ltb, List, [], ◌∷◌, sym, refl, ap, ◌∙◌, ap₂, ⊎_elim, le_of_lt, arith}
 use native.Mathlib.Nat.{mul-lt-mul_of_pos_left, mul-sub}
 use Rattle.std.proofs.lemmas.Bool.{and_parts, cases_Bool, ltb-true, leb-true}
 use Rattle.plane.specs.Lists.{added_up}
@@ -18,6 +18,7 @@ use Rattle.plane.proofs.Cells.{cell, crosses_within, off_within}
 use Rattle.plane.proofs.Shoelace.{Near, shoelace}
 use Rattle.ground.specs.Shapes.{Point, Shape, as_corner, edges, edges_from, inside, on_border, twice_area}
 use Rattle.ground.specs.Areas.{middle, cross_section, AreaIsMeasure, CellsAreWhole}
+use Rattle.ground.proofs.Closing.{edges_many}
 use Rattle.ground.proofs.Rings.{closed_edges, every_end, Shaped, shape_parts}
 use Rattle.ground.proofs.Points.{seen_from, touched_by, inside_sum}
 use Rattle.ground.proofs.Orientation.{Ring, sense}
@@ -37,20 +38,9 @@ unfolding edges added_up
 ring_ends g [] = refl
 ring_ends g (a ∷ s) = omega (arith, path_ends g a a s)
 
--- there are so many edges as corners
-length_edges_from : (f a : Corner) (bs : List Corner) → length (edges_from f a bs) ≡ suc (length bs)
-unfolding edges_from
-length_edges_from f a [] = refl
-length_edges_from f a (b ∷ bs) = ap suc (length_edges_from f b bs)
-
-length_edges : (s : Shape) → length (edges s) ≡ length s
-unfolding edges
-length_edges [] = refl
-length_edges (a ∷ s) = length_edges_from a a s
-
 -- THE RING OF A GROUND
 pub ground_ring : (s : Shape) → Shaped s → Ring (edges s)
-ground_ring s shaped = record { closed = closed_edges s; clear = shaped.clear; long = omega (arith, length_edges s, shaped.many.0) }
+ground_ring s shaped = record { closed = closed_edges s; clear = shaped.clear; long = omega (arith, edges_many s, shaped.many.0) }
 
 -- all its coordinates are up to 2^20
 pub ground_near : (s : Shape) → Shaped s → (e : Edge) → In e (edges s) → Near 1048576 e

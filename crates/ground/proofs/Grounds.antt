@@ -81,9 +81,9 @@ module _ (row : List ℕ) where
   unfolding Wrong
   refuses_far size k far first = (far_fails (eqb (length row % 2) 0) (at_least (shape_of row)) (at_most (shape_of row)) (every near_corner (shape_of row)) (ring_clear (edges (shape_of row))) (goes_left (shape_of row)) far, (size, first))
 
-  pub refuses_meeting : InRange row → (i j : ℕ) → ring_clear (edges (shape_of row)) ≡ false → FirstMeeting (edges (shape_of row)) i j → Refuses row (EdgesMeet i j)
+  pub refuses_meeting : InRange row → (i j : ℕ) → (ring_clear (edges (shape_of row)) ≡ false) × FirstMeeting (edges (shape_of row)) i j → Refuses row (EdgesMeet i j)
   unfolding Wrong
-  refuses_meeting range i j met first = (met_fails (eqb (length row % 2) 0) (at_least (shape_of row)) (at_most (shape_of row)) (every near_corner (shape_of row)) (ring_clear (edges (shape_of row))) (goes_left (shape_of row)) met, (range, first))
+  refuses_meeting range i j (met, first) = (met_fails (eqb (length row % 2) 0) (at_least (shape_of row)) (at_most (shape_of row)) (every near_corner (shape_of row)) (ring_clear (edges (shape_of row))) (goes_left (shape_of row)) met, (range, first))
 
   pub refuses_right : InRange row → ring_clear (edges (shape_of row)) ≡ true → goes_left (shape_of row) ≡ false → Refuses row Clockwise
   unfolding Wrong

@@ -4,6 +4,7 @@ use Rattle.std.proofs.lemmas.Bool.Decides.{nat_tests}
 use Rattle.std.proofs.lemmas.Bool.{eq-eqb}
 use Rattle.plane.specs.Lists.{or, pick, any, those, every}
 use Rattle.plane.specs.Corners.{Corner, corner}
+use Rattle.plane.proofs.Xors.{odd_more}
 use Rattle.plane.proofs.Booleans.{or_assoc, or_true_right, or_false_right}
 use Rattle.plane.specs.Edges.{Edge, edge, grown_edge, on_edge}
 use Rattle.plane.specs.Sights.{SeenAt, SeenSo, StandsAt, near_edge, view_fits}
@@ -25,12 +26,11 @@ seen_by f g l [] = l
 seen_by f g l (e ∷ es) = seen_by f g (with_edge f g l e) es
 
 -- an oddness of n, turned over if one more is counted
-odd_more : (o b : Bool) (e : Edge) (es : List Edge) →
+odd_seen : (o b : Bool) (e : Edge) (es : List Edge) →
     pick (eqb (length es % 2) 1) (not (pick b (not o) o)) (pick b (not o) o) ≡ pick (eqb (length (pick b (e ∷ es) es) % 2) 1) (not o) o
-odd_more o false e es = refl
-odd_more o true e es =
-    let more : eqb (suc (length es) % 2) 1 ≡ not (eqb (length es % 2) 1) = grind (arith, nat_tests) in
-    rw more (flips (eqb (length es % 2) 1) o)
+odd_seen o false e es = refl
+odd_seen o true e es =
+    rw (odd_more (length es)) (flips (eqb (length es % 2) 1) o)
   where
     flips : (t v : Bool) → pick t (not (not v)) (not v) ≡ pick (not t) (not v) v
     flips true true = refl
@@ -44,7 +44,7 @@ seen_parts f g l [] = ap (λ b. record { border = b; odd = l.odd }) (sym (or_fal
 seen_parts f g l (e ∷ es) =
     let left = seen_parts f g (with_edge f g l e) es in
     let o = or_assoc l.border (f e) (any f es) in
-    let x = odd_more l.odd (g e) e (those g es) in
+    let x = odd_seen l.odd (g e) e (those g es) in
     cc
 
 -- what the point sees of the edges that are left, on top of what it has seen

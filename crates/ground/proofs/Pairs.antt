@@ -3,7 +3,7 @@ use Rattle.std.proofs.Common.{◌≡◌, ℕ, zero, suc, ◌+◌, ◌-◌, ◌<�
 use Rattle.std.proofs.lemmas.List.{get_or-drop, get_or_append_left, get_or_at, length-append}
 use Rattle.std.proofs.lemmas.Bool.{eq-eqb, ne_eqb, cases_eq, and_left, and_right, and_parts, and_from}
 use Rattle.plane.specs.Lists.{pick}
-use Rattle.plane.proofs.Booleans.{and_assoc, and_true_right, false_from_not, false_from, not_both}
+use Rattle.plane.proofs.Booleans.{and_assoc, and_true_right, false_from_not, false_from, not_both, pick_true, pick_false}
 use Rattle.plane.specs.Corners.{corner}
 use Rattle.plane.specs.Edges.{Edge, edge, meet}
 use Rattle.ground.specs.Shapes.{neighbours_fine, clear_of, last_edge, all_but_last, path_clear, ring_clear}
@@ -26,12 +26,6 @@ fit_by N M es i j =
     pick (eqb j (i + 1)) (N (numbered es i) (numbered es j))
     (pick (eqb i 1 && eqb j (length es)) (N (numbered es j) (numbered es i)) (not (M (numbered es i) (numbered es j))))
 
-pick_first : {A : Type 0} (t : Bool) (a b : A) → t ≡ true → pick t a b ≡ a
-pick_first t a b h = rw h
-
-pick_second : {A : Type 0} (t : Bool) (a b : A) → t ≡ false → pick t a b ≡ b
-pick_second t a b h = rw h
-
 and_true : (t u : Bool) → u ≡ true → t && u ≡ t
 and_true true u h = h
 and_true false u h = refl
@@ -48,15 +42,15 @@ module _ (N M : Edge → Edge → Bool) (es : List Edge) (i : ℕ) (one : 1 ≤ 
 
   -- an edge and the next
   fit_next : fit_by N M es i (i + 1) ≡ N e f
-  fit_next = pick_first _ _ _ (eq-eqb (i + 1) (i + 1) refl) ∙ ap (λ a. N a (numbered es (i + 1))) own ∙ ap (N e) next
+  fit_next = pick_true _ _ _ (eq-eqb (i + 1) (i + 1) refl) ∙ ap (λ a. N a (numbered es (i + 1))) own ∙ ap (N e) next
 
   -- an edge and one between the next and the last
   fit_between : (k : ℕ) → k + 1 < length fs → fit_by N M es i (i + 2 + k) ≡ not (M e (get_or fs k no_edge))
   fit_between k few =
       let there : numbered es (i + 2 + k) ≡ get_or fs k no_edge =
       let s : i + 2 + k ≡ i + suc (suc k) = omega arith in ap (numbered es) s ∙ numbered_at es i (e ∷ f ∷ fs) one left (suc (suc k)) in
-      pick_second _ _ _ (ne_eqb (i + 2 + k) (i + 1) (λ h. omega arith))
-      ∙ pick_second _ _ _ (and_right (eqb i 1) _ (ne_eqb (i + 2 + k) (length es) (λ h. omega (arith, many))))
+      pick_false _ _ _ (ne_eqb (i + 2 + k) (i + 1) (λ h. omega arith))
+      ∙ pick_false _ _ _ (and_right (eqb i 1) _ (ne_eqb (i + 2 + k) (length es) (λ h. omega (arith, many))))
       ∙ ap (λ a. not (M a (numbered es (i + 2 + k)))) own ∙ ap (λ b. not (M e b)) there
 
   -- an edge and the last, if that is not the next
@@ -66,7 +60,7 @@ module _ (N M : Edge → Edge → Bool) (es : List Edge) (i : ℕ) (one : 1 ≤ 
       let end : numbered es (length es) ≡ z =
       let s : length es ≡ i + suc (suc (length qs)) = omega (arith, many) in
       ap (numbered es) s ∙ numbered_at es i (e ∷ f ∷ fs) one left (suc (suc (length qs))) ∙ ap (λ gs. get_or gs (length qs) no_edge) ends ∙ get_or_at qs z [] no_edge (length qs) refl in
-      pick_second _ _ _ (ne_eqb (length es) (i + 1) (λ h. omega (arith, many)))
+      pick_false _ _ _ (ne_eqb (length es) (i + 1) (λ h. omega (arith, many)))
       ∙ ap (λ t. pick t (N (numbered es (length es)) (numbered es i)) (not (M (numbered es i) (numbered es (length es))))) (and_true (eqb i 1) _ (eq-eqb (length es) (length es) refl))
       ∙ ap (λ b. pick (eqb i 1) (N b (numbered es i)) (not (M (numbered es i) b))) end
       ∙ ap (λ a. pick (eqb i 1) (N z a) (not (M a z))) own
@@ -213,7 +207,7 @@ module _ (es : List Edge) (i : ℕ) (e f : Edge) (qs : List Edge) (z : Edge) (so
             let k : i + 1 - 1 ≡ (i - 1) + 1 = omega (arith, so_far.from_one) in
             ap (λ m. drop m es) k ∙ (left_at es (i - 1) e (f ∷ qs ++ z ∷ []) so_far.goes_on).on;
         tells =
-            pick_second _ _ _ (ne_eqb (i + 1) 1 (λ h. omega (arith, so_far.from_one)))
+            pick_false _ _ _ (ne_eqb (i + 1) 1 (λ h. omega (arith, so_far.from_one)))
             ∙ sym (parts ∙ ap (λ t. t && path_clear (f ∷ qs ++ z ∷ [])) (and_from _ _ (and_from _ _ near clear) ends));
         before = λ k l a b c d.
             ⊎_elim (λ h. subst (λ m. fit_together es m l ≡ true) (sym h) (fit_all near clear ends l (omega arith) d)) (λ h. so_far.before k l a (omega arith) c d) (cases_eq k i);
@@ -226,7 +220,7 @@ module _ (es : List Edge) (i : ℕ) (e z : Edge) (so_far : Fitted es i e [] z) (
 
   end_left : ring_clear es ≡ neighbours_fine e z
   unfolding path_clear clear_of
-  end_left = sym so_far.tells ∙ pick_second _ _ _ (ne_eqb i 1 (λ h. omega (arith, end_many))) ∙ and_true_right (neighbours_fine e z)
+  end_left = sym so_far.tells ∙ pick_false _ _ _ (ne_eqb i 1 (λ h. omega (arith, end_many))) ∙ and_true_right (neighbours_fine e z)
 
   pub end_fits : neighbours_fine e z ≡ true → ring_clear es ≡ true
   end_fits near = end_left ∙ near

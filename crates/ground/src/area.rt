@@ -7,6 +7,7 @@ ghost use Rattle.plane.specs.Lists.{every};
 ghost use Rattle.ground.specs.Rows.{near_corner};
 
 use crate::range::first_far;
+use crate::validity::MOST_CORNERS;
 use crate::walks::Edges;
 use plane::Edge;
 
@@ -41,15 +42,12 @@ impl Sums {
     }
 }
 
-// Two numbers for each of 256 corners.
-const LONGEST_ROW: usize = 512;
-
 // Twice the area of the ring of a row; nothing if a number is left over or out of range, there are more than 256 corners, or the ring is not
 // gone round to the left. It fits, since it is at most a sum of 256 products below 2^40.
 pub fn twice_area(row: &[u64]) -> Option<u64>
     ensures { MatchOption result (has_area row.now ≡ false) (λ n. (has_area row.now ≡ true) × (n ≡ twice_area (shape_of row.now))) }
 {
-    if row.len() % 2 != 0 || row.len() > LONGEST_ROW {
+    if row.len() % 2 != 0 || row.len() > 2 * MOST_CORNERS {
         return None;
     }
     if first_far(row).is_some() {

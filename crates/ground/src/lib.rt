@@ -26,5 +26,5 @@ pub use theorems::{
     any_beginning_serves, box_holds, looking_north_agrees, same_point_same_answer,
     some_point_is_inside, within_within, worked_examples_hold,
 };
-pub use validity::is_ground;
+pub use validity::{MOST_CORNERS, is_ground};
 pub use walks::{Corners, Edges};

@@ -1,32 +1,26 @@
 // The edges of a ring: neighbours have their corner in common, and no other two have anything.
-ghost use Rattle.std.specs.Prelude.{◌≡◌, ◌%◌, ◌^◌, ◌<◌, ◌≤◌, true, false, length, MatchOption};
+ghost use Rattle.std.specs.Prelude.{◌≡◌, ◌%◌, ◌^◌, ◌<◌, ◌≤◌, true, false, length, MatchOption, MatchResult};
 ghost use Rattle.ground.specs.Paths.{FirstMet, fits_last};
 ghost use Rattle.ground.specs.Walks.{edges_left};
-ghost use Rattle.ground.specs.Refusals.{FirstMeeting};
+ghost use Rattle.ground.specs.Refusals.{InRange, Refuses};
 ghost use Rattle.ground.specs.Rows.{shape_of};
 ghost use Rattle.ground.specs.Shapes.{edges, neighbours_fine, clear_of, ring_clear};
 ghost use Rattle.plane.specs.Code.{along};
 
+use crate::refusal::NoGround;
 use crate::walks::{Corners, Edges};
 use plane::{Corner, Edge};
 
-// Two edges that meet, by their numbers.
-#[derive(Clone, Copy, PartialEq, Eq, Debug)]
-pub struct Meeting {
-    pub first: u64,
-    pub second: u64,
-}
-
-// The first two edges of a ring that meet where they may not.
-pub(crate) fn first_meeting(row: &[u64]) -> Option<Meeting>
-    requires { (6 ≤ length row.now) × (length row.now % 2 ≡ 0) }
-    ensures { MatchOption result (ring_clear (edges (shape_of row.now)) ≡ true) (λ m. (ring_clear (edges (shape_of row.now)) ≡ false) × FirstMeeting (edges (shape_of row.now)) m.first m.second) }
+// No two edges of a ring meet, but for neighbours in their corner; if they do, the first two that do.
+pub(crate) fn edges_apart(row: &[u64]) -> Result<(), NoGround>
+    requires { InRange row.now }
+    ensures { MatchResult result (λ _. ring_clear (edges (shape_of row.now)) ≡ true) (λ why. Refuses row.now why) }
 {
     let [ax, ay, bx, by, others @ ..] = row else {
-        return None;
+        return Err(NoGround::TooFew);
     };
     let [.., zx, zy] = row else {
-        return None;
+        return Err(NoGround::TooFew);
     };
     let end = row.len() as u64 / 2;
     let start = Corner { x: *ax, y: *ay };
@@ -40,25 +34,26 @@ pub(crate) fn first_meeting(row: &[u64]) -> Option<Meeting>
     };
     let mut first = 1;
     let mut rest = Edges::along(edge.other, Corners::of(others));
+    // The edges behind the next one are walked too: no `for` can lend them.
     while let Some(next) = rest.next() {
         if !joined(edge, next) {
             let second = first + 1;
-            return Some(Meeting { first, second });
+            return Err(NoGround::EdgesMeet { first, second });
         }
         if let Some(between) = first_met(edge, rest) {
             let second = first + 2 + between as u64;
-            return Some(Meeting { first, second });
+            return Err(NoGround::EdgesMeet { first, second });
         }
         if !fits_last(first, edge, last) {
-            return Some(Meeting { first, second: end });
+            return Err(NoGround::EdgesMeet { first, second: end });
         }
         edge = next;
         first += 1;
     }
     if joined(edge, last) {
-        None
+        Ok(())
     } else {
-        Some(Meeting { first, second: end })
+        Err(NoGround::EdgesMeet { first, second: end })
     }
 }
 

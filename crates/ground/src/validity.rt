@@ -7,11 +7,12 @@ ghost use Rattle.ground.specs.Shapes.{edges, ring_clear, twice_area};
 use crate::area::area_to_the_left;
 use crate::range::first_far;
 use crate::refusal::NoGround;
-use crate::ring::first_meeting;
+use crate::ring::edges_apart;
 
 const FEWEST_CORNERS: usize = 3;
 
-const MOST_CORNERS: usize = 256;
+// No ground has more corners.
+pub const MOST_CORNERS: usize = 256;
 
 // Whether a row of numbers, two for each corner, is a ground; if not, what is wrong with it.
 pub fn is_ground(row: &[u64]) -> Result<(), NoGround>
@@ -50,20 +51,6 @@ fn in_range(row: &[u64]) -> Result<(), NoGround>
     match first_far(row) {
         None => Ok(()),
         Some(corner) => Err(NoGround::OutOfRange { corner }),
-    }
-}
-
-// No two edges meet, but for neighbours in their corner.
-fn edges_apart(row: &[u64]) -> Result<(), NoGround>
-    requires { InRange row.now }
-    ensures { MatchResult result (λ _. ring_clear (edges (shape_of row.now)) ≡ true) (λ why. Refuses row.now why) }
-{
-    match first_meeting(row) {
-        None => Ok(()),
-        Some(met) => Err(NoGround::EdgesMeet {
-            first: met.first,
-            second: met.second,
-        }),
     }
 }
 

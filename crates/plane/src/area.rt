@@ -27,7 +27,7 @@ impl Area {
         }
     }
 
-    // Which of two areas is the larger, signs and all.
+    // Which of two areas is the larger, signs and all. No derived order is plainer: 0 stands under both signs, and of two areas below it the larger one is the smaller in size.
     pub(crate) fn compare(self, other: Area) -> Ordering
         ensures { MatchOrdering result (up self + down other < up other + down self) (up self + down other ≡ up other + down self) (up other + down self < up self + down other) }
     {

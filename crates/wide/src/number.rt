@@ -44,14 +44,14 @@ impl Wide {
         Some(Wide { high, low })
     }
 
-    // Which of the two is larger.
+    // Which of the two is larger: what the derived order says of the words, said of the numbers.
     pub fn compare(self, other: Wide) -> Ordering
         ensures { MatchOrdering result (value self < value other) (value self ≡ value other) (value other < value self) }
     {
         self.cmp(&other)
     }
 
-    // Whether both are the same number.
+    // Whether both are the same number, likewise.
     pub fn equals(self, other: Wide) -> bool
         ensures { result ≡ (value self == value other) }
     {

@@ -1,16 +1,6 @@
-use Rattle.std.proofs.Common.{◌≤◌, mul-le-mul_left, arith, to_z-of_z, w64, SFits}
+use Rattle.std.proofs.Common.{to_z-of_z, w64, SFits}
 use Rattle.plane.proofs.Spans.{signed_spread, span_fits}
 use Rattle.plane.proofs.area.small_area.Goals as goal
-
-pub difference-requires : goal.difference-requires
-difference-requires c =
-    let h : 1 ≤ c.requires.1 = omega arith in
-    (omega (arith, mul-le-mul_left c.requires.0 h), omega (arith, mul-le-mul_left c.requires.0 h))
-
-pub difference-requires-2 : goal.difference-requires-2
-difference-requires-2 c =
-    let h : 1 ≤ c.requires.0 = omega arith in
-    (omega (arith, mul-le-mul_left c.requires.1 h), omega (arith, mul-le-mul_left c.requires.1 h))
 
 pub overflow_mul-result : goal.overflow_mul-result
 overflow_mul-result c =

@@ -1,7 +1,6 @@
-use Rattle.std.proofs.Common.{lit<, to_z-of_z, w64, SFits}
+use Rattle.std.proofs.Common.{lit<}
 use Rattle.plane.specs.Code.{at}
 use Rattle.plane.proofs.Bounds.{all_within_told}
-use Rattle.plane.proofs.Leaning.{areas_turn}
 use Rattle.plane.proofs.corner.Corner.near_turn.Goals as goal
 
 pub small_area-left-requires : goal.small_area-left-requires
@@ -13,10 +12,3 @@ pub small_area-right-requires : goal.small_area-right-requires
 small_area-right-requires c =
     let p = all_within_told 2147483648 (at c.args.self) (at c.args.b) (at c.args.c) c.requires in
     (2147483648, 2147483648, (p.0.1, p.1.1), (p.0.0, p.2.0), lit< tt)
-
-pub returns : goal.returns
-returns c =
-    let f : SFits w64 c.small_area-left.result = record { sfits = c.small_area-left.type_inv } in
-    let g : SFits w64 c.small_area-right.result = record { sfits = c.small_area-right.type_inv } in
-    areas_turn c.small_area-left.result c.small_area-right.result (at c.args.self) (at c.args.b) (at c.args.c)
-    c.small_area-left.ensures c.small_area-right.ensures c.leaning.result (simp to_z-of_z at c.leaning.ensures)

@@ -4,7 +4,7 @@ use Rattle.ground.specs.Rows.{shape_of}
 use Rattle.ground.specs.Shapes.{edges}
 use Rattle.ground.specs.Walks.{edges_left}
 use Rattle.ground.proofs.Pairs.{Fitted}
-use Rattle.ground.proofs.ring.first_meeting.Given as goal
+use Rattle.ground.proofs.ring.edges_apart.Given as goal
 
 abbrev pub invariant-loop-next : goal.invariant-loop-next
 invariant-loop-next l =
