@@ -1,57 +1,16 @@
--- Cutting a line into words, byte by byte.
-use Rattle.std.proofs.Common.{◌≡◌, ℕ, ◌+◌, ◌-◌, ◌<◌, ◌≤◌, Bool, true, false, cond, List, [], ◌∷◌, ◌++◌, length, get_or, take, drop, Some, Ok, Err, Option, sym, refl, ap, ◌∙◌, append_assoc, append-nil, arith, length-drop}
+-- Cutting a line into words.
+use Rattle.std.proofs.Common.{◌≡◌, ℕ, ◌+◌, ◌<◌, ◌≤◌, Bool, true, false, cond, List, [], ◌∷◌, ◌++◌, length, get_or, drop, Some, Ok, Err, Option, sym, refl, ap, ◌∙◌, append_assoc, append-nil, arith}
 use Rattle.std.specs.List.{slice_split, onto_first}
-use Rattle.std.proofs.lemmas.List.{drop_more, drop_all, take_more, take_all, at_drop_more, at_drop_all}
+use Rattle.std.proofs.lemmas.List.{at_drop_more, at_drop_all}
 use Rattle.std.proofs.lemmas.List.Splits.{length-slice_split}
-use Rattle.std.proofs.lemmas.Bool.{cond-true, cond-false}
+use Rattle.std.proofs.lemmas.Bool.{cond-false}
 use Rattle.phrase.specs.declared.fault.NotUnderstood.{NotUnderstood}
 use Rattle.phrase.specs.declared.fault.NotUnderstood.TheVariants.{Unreadable, OutOfMemory}
 use Rattle.phrase.specs.declared.word.Word.{Word}
 use Rattle.phrase.specs.Numbers.{bind}
 use Rattle.phrase.specs.Reading.{Reads, Closes}
 use Rattle.phrase.proofs.Sofar.{prefixed, one_before, nothing_more}
-use Rattle.phrase.specs.Words.{ends, plain, separates, closed, cut, all_words}
-
-plain_stop : (b : ℕ) (bs : List ℕ) → ends b (length bs) ≡ true → plain (b ∷ bs) ≡ []
-unfolding plain
-plain_stop b bs h = cond-true _ _ _ h
-
-plain_on : (b : ℕ) (bs : List ℕ) → ends b (length bs) ≡ false → plain (b ∷ bs) ≡ b ∷ plain bs
-unfolding plain
-plain_on b bs h = cond-false _ _ _ h
-
-plain_none : plain [] ≡ []
-unfolding plain
-plain_none = refl
-
-left_after : (line : List ℕ) (i : ℕ) → length line - i - 1 ≡ length (drop (i + 1) line)
-left_after line i = omega (arith, length-drop (i + 1) line)
-
--- where the line ends, what was passed is what is read
-pub stop_here : (line : List ℕ) (i : ℕ) → i < length line → true ≡ ends (get_or line i 0) (length line - i - 1) → take i line ++ plain (drop i line) ≡ plain line → take i line ≡ plain line
-stop_here line i h e inv =
-    let none : plain (drop i line) ≡ [] = ap plain (drop_more line i 0 h) ∙ plain_stop _ _ (ap (ends (get_or line i 0)) (sym (left_after line i)) ∙ sym e) in
-    sym (append-nil (take i line)) ∙ ap (λ l. take i line ++ l) (sym none) ∙ inv
-
--- else one more byte is passed
-pub pass_on : (line : List ℕ) (i : ℕ) → i < length line → false ≡ ends (get_or line i 0) (length line - i - 1) → take i line ++ plain (drop i line) ≡ plain line → take (i + 1) line ++ plain (drop (i + 1) line) ≡ plain line
-pass_on line i h e inv =
-    let more : plain (drop i line) ≡ get_or line i 0 ∷ plain (drop (i + 1) line) = ap plain (drop_more line i 0 h) ∙ plain_on _ _ (ap (ends (get_or line i 0)) (sym (left_after line i)) ∙ sym e) in
-    ap (λ l. l ++ plain (drop (i + 1) line)) (take_more line i 0 h) ∙ append_assoc (take i line) (get_or line i 0 ∷ []) (plain (drop (i + 1) line)) ∙ ap (λ l. take i line ++ l) (sym more) ∙ inv
-
--- at the end all was passed
-pub pass_all : (line : List ℕ) (i : ℕ) → i ≤ length line → length line ≤ i → take i line ++ plain (drop i line) ≡ plain line → take (length line) line ≡ plain line
-pass_all line i h g inv =
-    let none : plain (drop i line) ≡ [] = ap plain (drop_all i line g) ∙ plain_none in
-    take_all (length line) line (omega arith) ∙ sym (take_all i line g) ∙ sym (append-nil (take i line)) ∙ ap (λ l. take i line ++ l) (sym none) ∙ inv
-
-pub cut_end : (w : List ℕ) → cut w [] ≡ closed w []
-unfolding cut
-cut_end w = refl
-
-pub cut_separated : (w : List ℕ) (b : ℕ) (bs : List ℕ) → separates b ≡ true → cut w (b ∷ bs) ≡ closed w (cut [] bs)
-unfolding cut
-cut_separated w b bs h = cond-true _ _ _ h
+use Rattle.phrase.specs.Words.{separates, closed, cut, all_words}
 
 pub cut_on : (w : List ℕ) (b : ℕ) (bs : List ℕ) → separates b ≡ false → cut w (b ∷ bs) ≡ cut (w ++ (b ∷ [])) bs
 unfolding cut

@@ -2,7 +2,7 @@
 use Rattle.std.proofs.Common.{◌≡◌, ℕ, ◌+◌, ◌-◌, ◌*◌, ◌^◌, ◌<◌, Bool, true, false, ltb, cond, ◌&&◌, List, [], ◌∷◌, length, None, Ok, Err, Option, Result, refl, ap, ◌∙◌, arith}
 use Rattle.std.specs.Char.{is_ascii_digit}
 use Rattle.std.specs.Result.{result_ok}
-use Rattle.std.proofs.lemmas.Bool.{cond-true, cond-false}
+use Rattle.std.proofs.lemmas.Bool.{cond-true}
 use Rattle.phrase.specs.declared.number.BadDigits.{BadDigits}
 use Rattle.phrase.specs.declared.number.BadDigits.TheVariants.{NotADigit, TooLarge}
 use Rattle.phrase.specs.Digits.{then, digit_after, digits_after}
@@ -39,10 +39,6 @@ run_end = refl
 pub run_digit : (d : ℕ) (ds : List ℕ) → is_ascii_digit d ≡ true → run (d ∷ ds) ≡ run ds + 1
 unfolding run
 run_digit d ds h = cond-true _ _ _ h ∙ omega arith
-
-pub run_odd : (d : ℕ) (ds : List ℕ) → is_ascii_digit d ≡ false → run (d ∷ ds) ≡ 0
-unfolding run
-run_odd d ds h = cond-false _ _ _ h
 
 -- of one digit or more
 pub more_end : (n : ℕ) (ds : List ℕ) → length ds ≡ 0 → more_digits n ds ≡ None

@@ -1,7 +1,8 @@
 -- Long division, place by place.
-use Rattle.std.proofs.Common.{◌≡◌, ℕ, zero, suc, ◌+◌, ◌-◌, ◌*◌, ◌/◌, ◌%◌, ◌^◌, ◌<◌, eqb, List, [], ◌∷◌, ◌++◌, length, sym, ap, ◌∙◌, append_assoc, append-nil, mod-lt, mod-eq_of_lt, div-lt_iff_lt-mul, pow-suc, div-add-mod', mul-one, add-one, arith}
+use Rattle.std.proofs.Common.{◌≡◌, ℕ, zero, suc, ◌+◌, ◌-◌, ◌*◌, ◌/◌, ◌%◌, ◌^◌, ◌<◌, eqb, List, [], ◌∷◌, ◌++◌, length, decimal, sym, ap, ◌∙◌, append_assoc, append-nil, mod-lt, mod-eq_of_lt, div-lt_iff_lt-mul, pow-suc, div-add-mod', mul-one, add-one, arith}
 use native.Mathlib.Nat.{dvd_of_mod-eq-zero, mod-eq-zero_of_dvd, dvd-mul_left_of_dvd, add-mul-mod_self_right, mul-add-mod_self_right}
 use Rattle.std.proofs.lemmas.Bool.{ne_eqb, eqb-true, cond-false, cond_both}
+use Rattle.std.proofs.lemmas.Fmt.{decimal_digit}
 use Rattle.phrase.specs.Ratios.{places, worth, PlacesAreExact}
 
 -- one power of ten more, as what is left over
@@ -16,12 +17,20 @@ pub place_small : (r q : ℕ) → r < q → r * 10 / q < 10
 place_small r q h = (div-lt_iff_lt-mul (omega arith)).1 (omega arith)
 
 -- a place more
-pub places_more : (k r q : ℕ) (bs : List ℕ) → 0 < k → (r ≡ 0 → ⊥) → (bs ++ ((48 + r * 10 / q) ∷ [])) ++ places (k - 1) (r * 10 % q) q ≡ bs ++ places k r q
+places_more : (k r q : ℕ) (bs : List ℕ) → 0 < k → (r ≡ 0 → ⊥) → (bs ++ ((48 + r * 10 / q) ∷ [])) ++ places (k - 1) (r * 10 % q) q ≡ bs ++ places k r q
 unfolding places
 places_more zero r q bs h some = absurd (omega arith)
 places_more (suc k) r q bs h some =
     let back : suc k - 1 ≡ k = omega arith in
     append_assoc bs ((48 + r * 10 / q) ∷ []) (places (suc k - 1) (r * 10 % q) q) ∙ ap (λ j. bs ++ ((48 + r * 10 / q) ∷ places j (r * 10 % q) q)) back ∙ ap (λ l. bs ++ l) (sym (cond-false (eqb r 0) _ _ (ne_eqb r 0 some)))
+
+-- place i is written as a number of its own
+pub place_more : (i r q : ℕ) (bs : List ℕ) → i < 64 → r < q → (r ≡ 0 → ⊥) → (bs ++ decimal (r * 10 / q)) ++ places (64 - (i + 1)) (r * 10 % q) q ≡ bs ++ places (64 - i) r q
+place_more i r q bs h less some =
+    let turn : 64 - (i + 1) ≡ 64 - i - 1 = omega arith in
+    ap (λ l. (bs ++ l) ++ places (64 - (i + 1)) (r * 10 % q) q) (decimal_digit (r * 10 / q) (place_small r q less))
+    ∙ ap (λ k. (bs ++ ((48 + r * 10 / q) ∷ [])) ++ places k (r * 10 % q) q) turn
+    ∙ places_more (64 - i) r q bs (omega arith) some
 
 -- no turn is left
 pub places_end : (r q : ℕ) (bs : List ℕ) → bs ++ places 0 r q ≡ bs

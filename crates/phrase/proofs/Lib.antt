@@ -6,10 +6,9 @@ pub mod Digits
 pub mod Division
 pub mod Euclid
 pub mod Greatest
-pub mod Joining
-pub mod Lines
 pub mod Lowest
 pub mod Marks
+pub mod Names
 pub mod ReadBack
 pub mod Rows
 pub mod Sofar

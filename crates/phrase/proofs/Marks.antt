@@ -1,9 +1,10 @@
 -- A number by its parts: the digits in front, the mark, and what follows it.
-use Rattle.std.proofs.Common.{◌≡◌, ℕ, ◌-◌, ◌^◌, eqb, List, [], ◌∷◌, length, get_or, take, Option, ◌∙◌, arith}
-use native.Mathlib.Nat.{sub-zero}
+use Rattle.std.proofs.Common.{◌≡◌, ℕ, ◌^◌, cond, eqb, List, [], ◌∷◌, length, get_or, take, drop, Option, refl, ap, ◌∙◌, arith}
 use Rattle.std.specs.List.{between}
 use Rattle.std.proofs.lemmas.List.{take_rest}
 use Rattle.std.proofs.lemmas.Bool.{eq-eqb, ne_eqb, cond-true, cond-false}
+use Rattle.std.specs.Char.{is_ascii_digit}
+use Rattle.std.specs.List.{prefix_len}
 use Rattle.phrase.specs.Numbers.{bind, more_digits, run, lowest, marked, number_word}
 
 -- after a `/` comes the denominator, read as o
@@ -17,6 +18,11 @@ marked_point n [] e h = absurd (omega arith)
 marked_point n (b ∷ rest) e h =
     cond-false (eqb b 47) _ _ (ne_eqb b 47 (λ f. omega arith)) ∙ cond-true (eqb b 46) _ _ (eq-eqb b 46 e) ∙ rw (h, take_rest (b ∷ rest) 1)
 
--- the front of a word, read as o, and what stands behind it, as the code cuts them
-pub number_parts : (w : List ℕ) (n : ℕ) {o : Option ℕ} → n ≡ run w → o ≡ more_digits 0 (take (n - 0) w) → number_word w ≡ bind o (λ m. marked m (between n (length w) w))
-number_parts w n e h = rw (h, take_rest w n, sub-zero n, e)
+run_is : (w : List ℕ) → run w ≡ prefix_len is_ascii_digit w
+unfolding run
+run_is [] = refl
+run_is (b ∷ w) = ap (λ n. cond (is_ascii_digit b) n 0) (omega (arith, run_is w))
+
+-- the front of a word, read as o, and what stands behind it
+pub number_parts : (w front rest : List ℕ) (n : ℕ) {o : Option ℕ} → n ≡ prefix_len is_ascii_digit w → front ≡ take n w → rest ≡ drop n w → o ≡ more_digits 0 front → number_word w ≡ bind o (λ m. marked m rest)
+number_parts w front rest n e f r h = rw (run_is w, ← e, ← f, ← r, ← h)

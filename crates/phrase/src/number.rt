@@ -1,5 +1,7 @@
 // Numbers as they are written: digits, fractions and decimals.
 ghost use Rattle.std.specs.Prelude.{◌≡◌, ◌^◌, ◌<◌, ◌≤◌, length};
+ghost use Rattle.std.specs.Char.{is_ascii_digit};
+ghost use Rattle.std.specs.List.{prefix_len};
 ghost use Rattle.phrase.specs.Digits.{digit_after, digits_after};
 ghost use Rattle.phrase.specs.Numbers.{more_digits, run, common, lowest, marked, number_word};
 
@@ -54,15 +56,9 @@ fn more_digits(start: u64, digits: &[u8]) -> Option<u64>
 
 // How many bytes at the front are digits.
 fn digits_run(word: &[u8]) -> usize
-    ensures within { result ≤ length word.now }
-    ensures value { result ≡ run word.now }
+    ensures { result ≡ prefix_len is_ascii_digit word.now }
 {
-    for (i, b) in word.iter().enumerate() {
-        if !b.is_ascii_digit() {
-            return i;
-        }
-    }
-    word.len()
+    word.iter().take_while(|b| b.is_ascii_digit()).count()
 }
 
 pub(crate) fn greatest_common(a: u128, b: u128) -> u128
@@ -126,7 +122,6 @@ fn after_digits(front: u64, bytes: &[u8]) -> Option<Word>
 pub(crate) fn read_number(word: &[u8]) -> Option<Word>
     ensures { result ≡ number_word word.now }
 {
-    let n = digits_run(word);
-    let front = more_digits(0, &word[0..n])?;
-    after_digits(front, &word[n..])
+    let (front, rest) = word.split_at(digits_run(word));
+    after_digits(more_digits(0, front)?, rest)
 }

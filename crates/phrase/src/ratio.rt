@@ -1,12 +1,20 @@
 // A fraction as text.
-ghost use Rattle.std.specs.Prelude.{◌≡◌, ◌%◌, ◌^◌, ◌<◌, ◌++◌, IfOk, OnOk, ◌==◌};
-ghost use Rattle.phrase.specs.Ratios.{places, places_text, lowest_text, ratio_text};
+ghost use Rattle.std.specs.Prelude.{◌≡◌, ◌%◌, ◌^◌, ◌<◌, Some, ◌==◌};
+ghost use Rattle.std.specs.Fmt.{DisplaysOnOk};
+ghost use Rattle.phrase.specs.Ratios.{places, lowest_text, ratio_text};
 
 use crate::number::greatest_common;
-use std::alloc::{AllocError, Global};
+use std::fmt;
 
 // How many places a decimal can need: no denominator of 64 bits needs more.
 const MOST_PLACES: u32 = 64;
+
+// The fraction `over` / `under`, which is shown in lowest terms.
+#[derive(Clone, Copy, PartialEq, Eq, Debug)]
+pub(crate) struct Ratio {
+    pub(crate) over: u64,
+    pub(crate) under: u64,
+}
 
 // Whether the decimal places of a fraction in lowest terms come to an end.
 fn has_end(under: u64) -> bool
@@ -20,51 +28,47 @@ fn has_end(under: u64) -> bool
     rest == 0
 }
 
-// Adds the places of `rest` / `under`, by long division.
-fn add_places(out: &mut Vec<u8>, rest: u64, under: u64) -> Result<(), AllocError>
+// The places of `rest` / `under`, by long division.
+fn write_places<W: fmt::Write>(rest: u64, under: u64, f: &mut fmt::Formatter<W>) -> fmt::Result
     requires { rest < under }
-    ensures { OnOk result (out.new.items ≡ out.old.items ++ places 64 rest under) }
+    ensures { DisplaysOnOk W.write_str_gives f.old result (Some (places 64 rest under)) f.new }
 {
     let mut left = rest as u128;
-    let mut turns = MOST_PLACES;
-    while turns > 0 && left != 0 {
-        out.push(b'0' + (left * 10 / under as u128) as u8)?;
+    for _i in 0..MOST_PLACES {
+        if left == 0 {
+            break;
+        }
+        let place = (left * 10 / under as u128) as u8;
+        write!(f, "{place}")?;
         left = left * 10 % under as u128;
-        turns -= 1;
     }
     Ok(())
 }
 
-fn with_places(heap: Global, over: u64, under: u64) -> Result<Vec<u8>, AllocError>
+fn write_lowest<W: fmt::Write>(over: u64, under: u64, f: &mut fmt::Formatter<W>) -> fmt::Result
     requires { 0 < under }
-    ensures { IfOk result (λ v. v.items ≡ places_text over under) }
-{
-    let whole = over / under;
-    let mut out = format!(in heap; "{whole}.")?.into_bytes();
-    add_places(&mut out, over % under, under)?;
-    Ok(out)
-}
-
-fn lowest_ratio(heap: Global, over: u64, under: u64) -> Result<Vec<u8>, AllocError>
-    requires { 0 < under }
-    ensures { IfOk result (λ v. v.items ≡ lowest_text over under) }
+    ensures { DisplaysOnOk W.write_str_gives f.old result (Some (lowest_text over under)) f.new }
 {
     if under == 1 {
-        return Ok(format!(in heap; "{over}")?.into_bytes());
+        return write!(f, "{over}");
     }
     if has_end(under) {
-        return with_places(heap, over, under);
+        let whole = over / under;
+        write!(f, "{whole}.")?;
+        return write_places(over % under, under, f);
     }
-    Ok(format!(in heap; "{over}/{under}")?.into_bytes())
+    write!(f, "{over}/{under}")
 }
 
-// The fraction `over` / `under` in lowest terms.
-pub(crate) fn write_ratio(heap: Global, over: u64, under: u64) -> Result<Vec<u8>, AllocError>
-    ensures { IfOk result (λ v. v.items ≡ ratio_text over under) }
-{
-    if under == 0 {
-        return Ok(format!(in heap; "{over}/0")?.into_bytes());
+impl fmt::Display for Ratio {
+    ghost output = { λ r. Some (ratio_text r.over r.under) };
+
+    fn fmt<W: fmt::Write>(&self, f: &mut fmt::Formatter<W>) -> fmt::Result {
+        let Ratio { over, under } = *self;
+        if under == 0 {
+            return write!(f, "{over}/0");
+        }
+        let shared = greatest_common(over as u128, under as u128) as u64;
+        write_lowest(over / shared, under / shared, f)
     }
-    let shared = greatest_common(over as u128, under as u128) as u64;
-    lowest_ratio(heap, over / shared, under / shared)
 }

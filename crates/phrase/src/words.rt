@@ -10,62 +10,26 @@ use crate::number::read_number;
 use crate::word::{Name, Word};
 use std::alloc::Global;
 
-// Whether two rows of bytes are the same.
-fn is_same(text: &[u8], other: &[u8]) -> bool
-    ensures { result ≡ bytes_eq text.now other.now }
-{
-    text == other
-}
-
+// The name that a word is, if it is one.
 fn read_name(text: &[u8]) -> Option<Name>
     ensures { result ≡ name text.now }
 {
-    if is_same(text, b"put") {
-        return Some(Name::Put);
+    match str::from_utf8(text).ok()? {
+        "put" => Some(Name::Put),
+        "drop" => Some(Name::Drop),
+        "at" => Some(Name::At),
+        "point" => Some(Name::Point),
+        "how" => Some(Name::How),
+        "lie" => Some(Name::Lie),
+        "all" => Some(Name::All),
+        "that" => Some(Name::That),
+        "on" => Some(Name::On),
+        "area" => Some(Name::Area),
+        "of" => Some(Name::Of),
+        "help" => Some(Name::Help),
+        "quit" => Some(Name::Quit),
+        _ => None,
     }
-    if is_same(text, b"drop") {
-        return Some(Name::Drop);
-    }
-    if is_same(text, b"at") {
-        return Some(Name::At);
-    }
-    if is_same(text, b"point") {
-        return Some(Name::Point);
-    }
-    if is_same(text, b"how") {
-        return Some(Name::How);
-    }
-    if is_same(text, b"lie") {
-        return Some(Name::Lie);
-    }
-    read_other_name(text)
-}
-
-fn read_other_name(text: &[u8]) -> Option<Name>
-    ensures { result ≡ other_name text.now }
-{
-    if is_same(text, b"all") {
-        return Some(Name::All);
-    }
-    if is_same(text, b"that") {
-        return Some(Name::That);
-    }
-    if is_same(text, b"on") {
-        return Some(Name::On);
-    }
-    if is_same(text, b"area") {
-        return Some(Name::Area);
-    }
-    if is_same(text, b"of") {
-        return Some(Name::Of);
-    }
-    if is_same(text, b"help") {
-        return Some(Name::Help);
-    }
-    if is_same(text, b"quit") {
-        return Some(Name::Quit);
-    }
-    None
 }
 
 fn read_word(text: &[u8]) -> Option<Word>
