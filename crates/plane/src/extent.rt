@@ -15,7 +15,7 @@ pub fn between(a: u64, b: u64, c: u64) -> bool
 }
 
 // Whether the numbers from a to b and those from c to d have one in common.
-pub(crate) fn ranges_meet(a: u64, b: u64, c: u64, d: u64) -> bool
+pub fn ranges_meet(a: u64, b: u64, c: u64, d: u64) -> bool
     ensures { result ≡ ranges_meet a b c d }
 {
     a.min(b) <= c.max(d) && c.min(d) <= a.max(b)

@@ -18,7 +18,7 @@ mod viewer;
 pub use corner::{CORNER_LIMIT, Corner};
 pub use edge::Edge;
 pub use entry::turn;
-pub use extent::between;
+pub use extent::{between, ranges_meet};
 pub use reply::Reply;
 pub use sight::Sight;
 pub use theorems::{crossing_parity, equal_corners, meets_both_ways, turn_cycles, turn_reverses};

@@ -1,5 +1,5 @@
 -- Contacts add up: of several edges the closest contact counts.
-use Rattle.std.proofs.Common.{◌≡◌, ℕ, Bool, true, false, not, ◌&&◌, ltb, ◌⊎◌, List, [], ◌∷◌, sym, refl, ap, ◌∙◌, inl, inr, ⊎_elim, arith}
+use Rattle.std.proofs.Common.{◌≡◌, ℕ, Bool, true, false, ◌&&◌, ltb, ◌⊎◌, List, [], ◌∷◌, sym, refl, ap, ◌∙◌, inl, inr, ⊎_elim, arith}
 use Rattle.std.proofs.lemmas.Bool.Decides.{nat_tests}
 use Rattle.std.proofs.lemmas.Bool.{and_left, and_right}
 use Rattle.std.specs.Ordering.{ord_max}
@@ -9,7 +9,7 @@ use Rattle.plane.specs.Edges.{Edge, cross_over, meet}
 use Rattle.ground.specs.Shapes.{Shape, edges}
 use Rattle.ground.proofs.Clearance.{one_corner}
 use Rattle.plane.specs.Extents.{ranges_meet}
-use Rattle.plane.proofs.Booleans.{false_from_not, or_parts, or_from, or_cases}
+use Rattle.plane.proofs.Booleans.{or_parts, or_from, or_cases}
 use Rattle.plane.proofs.Extents.{apart_unmet}
 use Rattle.relate.specs.contracts.contact.ContactOrd.TheImpl.{cmp-value}
 use Rattle.relate.specs.declared.contact.Contact.{Contact}
@@ -106,9 +106,9 @@ contact_missed (c ∷ cs) e out =
     sym (ap (λ x. contact x (any (meet e) (edges (c ∷ cs)))) (missed_cross (c ∷ cs) e out) ∙ ap (contact false) (missed_meet (c ∷ cs) e out))
 
 -- edges at other heights do not meet
-pub level_apart : (e f : Edge) → not (ranges_meet e.one.y e.other.y f.one.y f.other.y) ≡ true → (cross_over e f ≡ false) × (meet e f ≡ false)
+pub level_apart : (e f : Edge) → ranges_meet e.one.y e.other.y f.one.y f.other.y ≡ false → (cross_over e f ≡ false) × (meet e f ≡ false)
 level_apart e f h =
-    let unmet : meet e f ≡ false = apart_unmet e f (and_right (ranges_meet e.one.x e.other.x f.one.x f.other.x) _ (false_from_not _ h)) in
+    let unmet : meet e f ≡ false = apart_unmet e f (and_right (ranges_meet e.one.x e.other.x f.one.x f.other.x) _ h) in
     ((or_parts (cross_over e f) _ unmet).0, unmet)
 
 level : (m n : ℕ) → m ≡ n → ltb m n ≡ false

@@ -1,17 +1,16 @@
 // Contacts: whether edges of two rings cross over, or meet at all.
-ghost use Rattle.std.specs.Prelude.{◌≡◌, not};
+ghost use Rattle.std.specs.Prelude.{◌≡◌};
 ghost use Rattle.ground.specs.Shapes.{edges};
 ghost use Rattle.ground.specs.Statements.{crossing};
 ghost use Rattle.plane.specs.Code.{along};
 ghost use Rattle.plane.specs.Edges.{cross_over, meet};
-ghost use Rattle.plane.specs.Extents.{ranges_meet};
 ghost use Rattle.plane.specs.Lists.{any};
 ghost use Rattle.relate.specs.Contacts.{contact, shares_corner};
 ghost use Rattle.relate.specs.Going.{shape_in};
 ghost use Rattle.relate.specs.Samples.{meeting};
 
 use crate::ring::Ring;
-use plane::Edge;
+use plane::{Edge, ranges_meet};
 
 // From the farthest to the closest.
 #[derive(Clone, Copy, PartialEq, Eq, PartialOrd, Ord)]
@@ -55,7 +54,7 @@ impl Contact {
         let mut contact = Contact::Clear;
         for near in ring.edges() {
             let f = near.edge;
-            if heights_apart(e, f) {
+            if !ranges_meet(e.one.y, e.other.y, f.one.y, f.other.y) {
                 continue;
             }
             contact = contact.max(Contact::between(e, f));
@@ -82,14 +81,6 @@ impl Contact {
             Contact::Meeting
         }
     }
-}
-
-// Whether all of the one edge is below or above all of the other.
-fn heights_apart(e: Edge, f: Edge) -> bool
-    ensures { result ≡ not (ranges_meet e.one.y e.other.y f.one.y f.other.y) }
-{
-    f.one.y.max(f.other.y) < e.one.y.min(e.other.y)
-        || e.one.y.max(e.other.y) < f.one.y.min(f.other.y)
 }
 
 // Whether an end of the one edge is an end of the other: then they do not cross over.

@@ -70,16 +70,13 @@ impl<'a> Ring<'a> {
     pub(crate) fn misses(&self, e: Edge) -> bool
         ensures { result ≡ misses (bounds_of (shape_in self.now)) (along e) }
     {
-        let Extent {
-            west,
-            south,
-            east,
-            north,
-        } = self.bounds;
-        e.one.x.max(e.other.x) < west
-            || east < e.one.x.min(e.other.x)
-            || e.one.y.max(e.other.y) < south
-            || north < e.one.y.min(e.other.y)
+        let edge_box = Extent {
+            west: e.one.x.min(e.other.x),
+            south: e.one.y.min(e.other.y),
+            east: e.one.x.max(e.other.x),
+            north: e.one.y.max(e.other.y),
+        };
+        edge_box.is_apart(self.bounds)
     }
 
     // The edges, gone along from the last corner to the first and on.

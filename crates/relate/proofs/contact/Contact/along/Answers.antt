@@ -13,11 +13,11 @@ loop-near-init c =
     ap (λ es. joined Clear (contact_of (cross_over e) (meet e) es)) (ap edges_left c.into_iter-near-iterator.ensures.into_iter_gives ∙ c.edges-near-items.ensures)
     ∙ contact_begins (cross_over e) (meet e) (shape_in c.args.ring.now)
 
-pub loop-near-preserved-then-heights_apart : goal.loop-near-preserved-then-heights_apart
-loop-near-preserved-then-heights_apart c =
+pub loop-near-preserved-then-not-ranges_meet : goal.loop-near-preserved-then-not-ranges_meet
+loop-near-preserved-then-not-ranges_meet c =
     let e = along c.args.e in
     let f = along c.in-Some.near.edge in
-    contact_skips (cross_over e) (meet e) c.loop-near.contact f (edges_left c.next.new.self) (level_apart e f (sym c.if-heights_apart.ensures))
+    contact_skips (cross_over e) (meet e) c.loop-near.contact f (edges_left c.next.new.self) (level_apart e f (sym c.if-not-ranges_meet.ensures))
     ∙ ap (λ es. joined c.loop-near.contact (contact_of (cross_over e) (meet e) es)) (sym c.in-Some.ensures.steps) ∙ c.loop-near.invariant
 
 pub returns-then-eq : goal.returns-then-eq
