@@ -84,6 +84,6 @@ fits_near row h =
     let w = and_parts (eqb (length row % 2) 0) (every (λ n. ltb n 1048576) row) h in
     sym (numbers_near row (eqb-true _ _ w.0)) ∙ w.1
 
--- each of some corners in range is
+-- an edge between corners in range is in range
 pub near_between : (a b : Corner) → near_corner a ≡ true → near_corner b ≡ true → near_edge (edge a b) ≡ true
 near_between a b h k = and_from (near_corner a) (near_corner b) h k
