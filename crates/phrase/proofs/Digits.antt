@@ -41,10 +41,6 @@ unfolding run
 run_digit d ds h = cond-true _ _ _ h ∙ omega arith
 
 -- of one digit or more
-pub more_end : (n : ℕ) (ds : List ℕ) → length ds ≡ 0 → more_digits n ds ≡ None
-more_end n [] h = refl
-more_end n (d ∷ ds) h = absurd (omega arith)
-
 pub more_some : (n : ℕ) (ds : List ℕ) → 0 < length ds → more_digits n ds ≡ read_on n ds
 more_some n [] h = absurd (omega arith)
 more_some n (d ∷ ds) h = refl

@@ -1,10 +1,7 @@
-use Rattle.std.proofs.Common.{sym, ap, ◌∙◌, arith, true-eqb, false-eqb}
+use Rattle.std.proofs.Common.{sym, ap, ◌∙◌, arith, false-eqb}
 use Rattle.std.specs.Result.{result_ok}
-use Rattle.phrase.proofs.Digits.{more_end, more_some, digits_read}
+use Rattle.phrase.proofs.Digits.{more_some, digits_read}
 use Rattle.phrase.proofs.number.more_digits.Goals as goal
-
-pub returns-then-is_empty : goal.returns-then-is_empty
-returns-then-is_empty c = sym (more_end _ _ (true-eqb _ 0 c.if-is_empty.ensures))
 
 pub returns : goal.returns
 returns c =

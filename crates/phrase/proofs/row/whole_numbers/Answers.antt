@@ -1,11 +1,8 @@
 use Rattle.std.proofs.Common.{◌+◌, drop, sym, ap, ◌∙◌}
 use Rattle.phrase.specs.Rows.{wholes}
 use Rattle.phrase.proofs.Rows.{row_more, row_stops, row_ends}
-use Rattle.phrase.proofs.Sofar.{prefixed, none_before}
+use Rattle.phrase.proofs.Sofar.{prefixed}
 use Rattle.phrase.proofs.row.whole_numbers.Goals as goal
-
-pub loop-word-init : goal.loop-word-init
-loop-word-init c = ap (λ xs. prefixed xs (wholes c.args.words.now)) c.new-row.ensures.items ∙ none_before _
 
 pub returns-in_default : goal.returns-in_default
 returns-in_default c = sym c.loop-word.invariant ∙ row_stops c.args.words.now c.loop-word.word-index _ _ c.loop-word-test.true c.in_default.not-Whole
