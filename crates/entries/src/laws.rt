@@ -2,8 +2,6 @@
 ghost use Rattle.entries.specs.ReadBack.{ReadsBack};
 
 // A ground that was written as well-known text is read back.
-pub fn written_is_read_back() -> u8
+pub fn written_is_read_back()
     ensures { ReadsBack }
-{
-    0
-}
+{}

@@ -2,9 +2,9 @@
 use crate::cells::look;
 use crate::fault::Fault;
 use crate::pair::Pair;
-use crate::random::Random;
 use crate::seen::Seen;
 use crate::tally::Tally;
+use figures::Random;
 use relate::how_two_lie;
 use std::alloc::{AllocError, Global};
 use terms::Way;

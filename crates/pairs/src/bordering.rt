@@ -1,10 +1,11 @@
 // Pairs of random rings, many of which share corners and edges or parts of edges.
 use crate::motion::Motion;
 use crate::pair::Pair;
-use crate::random::{Field, Random};
+use crate::random::{Draw, Field};
 use crate::ring::Ring;
 use crate::segment::Segment;
 use crate::spot::Spot;
+use figures::Random;
 use std::alloc::{AllocError, Global};
 
 // How often a corner is tried to be added to a random ring, at most.

@@ -1,10 +1,11 @@
 // Pairs of rings that are built after a plan: notches, combs, spirals, pinwheels, bars and slabs.
 use crate::motion::Motion;
 use crate::pair::Pair;
-use crate::random::{Field, Random};
+use crate::random::{Draw, Field};
 use crate::ring::Ring;
 use crate::spot::Spot;
-use crate::tables::{GAP, LEVEL_SAIL, SPIRAL, UPRIGHT_SAIL};
+use crate::tables::{GAP, LEVEL_SAIL, UPRIGHT_SAIL};
+use figures::{Random, SPIRAL};
 use std::alloc::{AllocError, Global};
 
 // A little way to any side, most often none.
@@ -89,6 +90,11 @@ pub(crate) fn combs(heap: Global, random: &mut Random) -> Result<Pair, AllocErro
     Ok(Pair { first, second })
 }
 
+fn spiral(heap: Global) -> Result<Ring, AllocError> {
+    let corners = SPIRAL.map(|[x, y]| Spot::at(i64::from(x), i64::from(y)));
+    Ring::of(heap, &corners)
+}
+
 // A spiral, and the same or what it leaves free, a little thinner or thicker.
 pub(crate) fn spirals(heap: Global, random: &mut Random) -> Result<Pair, AllocError> {
     let wide = Motion {
@@ -96,9 +102,9 @@ pub(crate) fn spirals(heap: Global, random: &mut Random) -> Result<Pair, AllocEr
         east: Spot::at(3, 0),
         north: Spot::at(0, 3),
     };
-    let first = Ring::of(heap, &SPIRAL)?.under(wide);
+    let first = spiral(heap)?.under(wide);
     let other = if random.one_in(3) {
-        Ring::of(heap, &SPIRAL)?
+        spiral(heap)?
     } else {
         Ring::of(heap, &GAP)?
     };

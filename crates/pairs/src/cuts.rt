@@ -1,6 +1,7 @@
 // Grounds that are cut in two between two of their corners: the areas add up, the pieces touch, and each lies within the whole.
-use crate::random::{Field, Random};
+use crate::random::Field;
 use crate::ring::Ring;
+use figures::Random;
 use ground::{is_ground, twice_area};
 use relate::how_two_lie;
 use std::alloc::{AllocError, Global};

@@ -1,8 +1,9 @@
 // Random rings: an edge, a third corner, and then more and more corners as long as they are grounds.
-use crate::random::{Field, Random};
+use crate::random::{Draw, Field};
 use crate::ring::Ring;
 use crate::segment::Segment;
 use crate::spot::Spot;
+use figures::Random;
 use std::alloc::{AllocError, Global};
 
 impl Ring {

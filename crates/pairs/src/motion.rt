@@ -1,6 +1,6 @@
 // Moving, turning, mirroring, stretching and slanting the plane.
-use crate::random::Random;
 use crate::spot::Spot;
+use figures::Random;
 
 // Where a spot goes: to the origin, then x times `east`, then y times `north`.
 #[derive(Clone, Copy)]

@@ -1,7 +1,7 @@
 // Two rings.
 use crate::motion::Motion;
-use crate::random::Random;
 use crate::ring::Ring;
+use figures::Random;
 use std::alloc::{AllocError, Global};
 
 #[derive(Drop)]

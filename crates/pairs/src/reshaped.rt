@@ -1,7 +1,7 @@
 // Rings that are made of another by a change of some of its corners.
-use crate::random::Random;
 use crate::ring::Ring;
 use crate::spot::Spot;
+use figures::Random;
 use std::alloc::{AllocError, Global};
 
 impl Ring {

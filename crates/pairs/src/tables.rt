@@ -1,27 +1,7 @@
 // Rings that are written down corner by corner.
 use crate::spot::Spot;
 
-// A corridor of one ell that winds inward.
-pub(crate) const SPIRAL: [Spot; 16] = [
-    Spot { x: 0, y: 0 },
-    Spot { x: 7, y: 0 },
-    Spot { x: 7, y: 7 },
-    Spot { x: 0, y: 7 },
-    Spot { x: 0, y: 2 },
-    Spot { x: 5, y: 2 },
-    Spot { x: 5, y: 5 },
-    Spot { x: 2, y: 5 },
-    Spot { x: 2, y: 4 },
-    Spot { x: 4, y: 4 },
-    Spot { x: 4, y: 3 },
-    Spot { x: 1, y: 3 },
-    Spot { x: 1, y: 6 },
-    Spot { x: 6, y: 6 },
-    Spot { x: 6, y: 1 },
-    Spot { x: 0, y: 1 },
-];
-
-// What it leaves free.
+// What the spiral leaves free.
 pub(crate) const GAP: [Spot; 12] = [
     Spot { x: 0, y: 1 },
     Spot { x: 6, y: 1 },

@@ -4,22 +4,16 @@ ghost use Rattle.phrase.specs.Ratios.{PlacesAreExact};
 ghost use Rattle.phrase.specs.Writing.{ReadsBack};
 
 // Whatever is written of a command that a line can say is read back as that command.
-pub fn written_is_read_back() -> u8
+pub fn written_is_read_back()
     ensures { ReadsBack }
-{
-    0
-}
+{}
 
 // Lowest terms are lowest: what is divided out is the greatest common divisor.
-pub fn common_divisor_is_greatest() -> u8
+pub fn common_divisor_is_greatest()
     ensures { CommonIsGreatest }
-{
-    0
-}
+{}
 
 // A decimal that is written is the fraction itself.
-pub fn decimal_places_are_exact() -> u8
+pub fn decimal_places_are_exact()
     ensures { PlacesAreExact }
-{
-    0
-}
+{}
