@@ -1,9 +1,9 @@
 // Numbers as they are written: digits, fractions and decimals.
-ghost use Rattle.std.specs.Prelude.{◌≡◌, ◌^◌, ◌<◌, ◌≤◌, length};
+ghost use Rattle.std.specs.Prelude.{◌≡◌, ◌^◌, ◌<◌};
 ghost use Rattle.std.specs.Char.{is_ascii_digit};
 ghost use Rattle.std.specs.List.{prefix_len};
 ghost use Rattle.phrase.specs.Digits.{digit_after, digits_after};
-ghost use Rattle.phrase.specs.Numbers.{more_digits, run, common, lowest, marked, number_word};
+ghost use Rattle.phrase.specs.Numbers.{more_digits, common, lowest, marked, number_word};
 
 use crate::word::Word;
 

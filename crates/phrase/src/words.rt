@@ -1,8 +1,7 @@
 // A line cut into its words. A comma separates words as a space does, so no word is ever empty.
 ghost use Rattle.std.specs.Prelude.{◌≡◌, []};
-ghost use Rattle.std.specs.Str.{bytes_eq};
 ghost use Rattle.phrase.specs.Reading.{Reads, Closes};
-ghost use Rattle.phrase.specs.Words.{separates, cut, name, other_name, word, all_words, words};
+ghost use Rattle.phrase.specs.Words.{separates, cut, name, word, all_words, words};
 
 use crate::fault::NotUnderstood;
 use crate::line::without_comment;
