@@ -11,25 +11,19 @@ use crate::act::Act;
 use crate::head::{count, end_of_records};
 use crate::layout::{AT_CORNERS, AT_GROUNDS, COUNT_IN_RECORD, Memory};
 use crate::records::{end_of_record, seek};
+use std::ops::Range;
 use terms::Refusal;
 
-// The records behind one: from where on, and up to where.
-#[derive(Clone, Copy)]
-struct Behind {
-    from: usize,
-    end: usize,
-}
-
 // The records behind the one at `place`, if that lies within what the head counts.
-fn records_behind(memory: &Memory, place: usize) -> Option<Behind>
-    ensures { MatchOption result (within_count memory.now place ≡ false) (λ b. (within_count memory.now place ≡ true) × (b.from ≡ behind memory.now place) × (b.end ≡ end_of memory.now)) }
+fn records_behind(memory: &Memory, place: usize) -> Option<Range<usize>>
+    ensures { MatchOption result (within_count memory.now place ≡ false) (λ b. (within_count memory.now place ≡ true) × (b.start ≡ behind memory.now place) × (b.end ≡ end_of memory.now)) }
 {
     let from = end_of_record(memory, place)?;
     let end = end_of_records(memory)?;
     if from > end || memory[place + COUNT_IN_RECORD] > memory[AT_CORNERS] {
         return None;
     }
-    Some(Behind { from, end })
+    Some(from..end)
 }
 
 // Drops the ground with this number. In a memory that never held one there, it is not there.
@@ -44,7 +38,7 @@ pub(crate) fn drop_ground(memory: &mut Memory, number: u64) -> Act
     };
     let grounds = memory[AT_GROUNDS] - 1;
     let corners = memory[AT_CORNERS] - memory[place + COUNT_IN_RECORD];
-    memory.copy_within(behind.from..behind.end, place);
+    memory.copy_within(behind, place);
     count(memory, grounds, corners);
     Act::Done
 }

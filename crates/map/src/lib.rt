@@ -2,6 +2,7 @@
 #![tactic(auto)]
 
 mod act;
+mod aim;
 mod asking;
 mod dropping;
 mod event;

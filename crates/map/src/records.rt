@@ -24,12 +24,12 @@ pub(crate) fn end_of_record(memory: &Memory, place: usize) -> Option<usize>
 }
 
 // The place of the record with this number, or else the place where it would stand.
+#[tactic(auto, using(std::proofs::lemmas::Bool::Decides::nat_tests, crate::proofs::Walks::seek_step, crate::proofs::Walks::seek_end))]
 pub(crate) fn seek(memory: &Memory, number: u64) -> Result<usize, usize>
     ensures { Found result (seek memory.now (slice_index memory.now at_grounds) head_length number) }
 {
-    let mut left = memory[AT_GROUNDS];
     let mut place = HEAD_LENGTH;
-    while left > 0 {
+    for _left in (0..memory[AT_GROUNDS]).rev() {
         let Some(next) = end_of_record(memory, place) else {
             return Err(place);
         };
@@ -38,7 +38,6 @@ pub(crate) fn seek(memory: &Memory, number: u64) -> Result<usize, usize>
             Ordering::Equal => return Ok(place),
             Ordering::Greater => return Err(place),
         }
-        left -= 1;
     }
     Err(place)
 }

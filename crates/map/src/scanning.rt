@@ -1,17 +1,15 @@
 // Looking for the next ground that has a point.
 ghost use Rattle.std.specs.Prelude.{◌≡◌, ◌+◌, ◌≤◌, true, length};
-ghost use Rattle.ground.specs.Boxes.{box_around};
 ghost use Rattle.map.specs.Sizes.{memory_length, record_length};
 ghost use Rattle.map.specs.Memory.{whole_at, behind, has_at, scan};
-ghost use Rattle.map.specs.Machine.{small_point};
 ghost use Rattle.map.specs.Code.{point_of, box_at, Hits};
 
+use crate::aim::Aim;
 use crate::layout::{
     EAST_IN_RECORD, Memory, NORTH_IN_RECORD, RECORD_LENGTH, SOUTH_IN_RECORD, WEST_IN_RECORD,
 };
 use crate::records::end_of_record;
 use ground::{Extent, has_point};
-use terms::Point;
 
 // A ground that has the point: its number, where the next record begins, and how many there are behind it.
 #[derive(Clone, Copy, PartialEq, Eq, Debug)]
@@ -36,31 +34,24 @@ fn box_at(memory: &Memory, place: usize) -> Extent
 
 // Whether the ground of the record from `place` to `end` has the point. Its box comes first: four comparisons with the box around the point
 // pass over most grounds. Numbers that are no corners' make no ground.
-fn has_at(memory: &Memory, place: usize, end: usize, p: Point, around: Extent) -> bool
+fn has_at(memory: &Memory, place: usize, end: usize, aim: Aim) -> bool
     requires place_value { whole_at memory.now place ≡ true }
     requires end_value { end ≡ behind memory.now place }
-    requires p_value { small_point (point_of p) ≡ true }
-    requires around_value { around ≡ box_around p.a p.b p.w }
-    ensures { result ≡ has_at memory.now place (point_of p) }
+    ensures { result ≡ has_at memory.now place (point_of aim.point) }
 {
-    box_at(memory, place).holds(around)
-        && has_point(&memory[place + RECORD_LENGTH..end], p).unwrap_or(false)
+    box_at(memory, place).holds(aim.around)
+        && has_point(&memory[place + RECORD_LENGTH..end], aim.point).unwrap_or(false)
 }
 
 // The first of `left` records from `place` on whose ground has the point.
-pub(crate) fn scan(memory: &Memory, p: Point, left: u64, place: u64) -> Option<Hit>
-    requires { small_point (point_of p) ≡ true }
-    ensures { Hits memory.now result (scan memory.now (point_of p) left place) }
+#[tactic(auto, using(crate::proofs::Walks::scan_step, crate::proofs::Walks::scan_end))]
+pub(crate) fn scan(memory: &Memory, aim: Aim, left: u64, place: u64) -> Option<Hit>
+    ensures { Hits memory.now result (scan memory.now (point_of aim.point) left place) }
 {
-    let around = Extent::around(p)?;
-    let mut left = left;
     let mut place = place as usize;
-    while left > 0 {
-        let Some(next) = end_of_record(memory, place) else {
-            return None;
-        };
-        left -= 1;
-        if has_at(memory, place, next, p, around) {
+    for left in (0..left).rev() {
+        let next = end_of_record(memory, place)?;
+        if has_at(memory, place, next, aim) {
             return Some(Hit {
                 number: memory[place],
                 next,

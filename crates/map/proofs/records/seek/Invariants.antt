@@ -5,7 +5,4 @@ use Rattle.map.proofs.records.seek.Given as goal
 
 -- what is left gives the answer
 abbrev pub invariant-loop-left : goal.invariant-loop-left
-invariant-loop-left l = seek l.memory (get_or l.memory at_grounds 0) head_length l.number ≡ seek l.memory l.left l.place l.number
-
-abbrev pub decreases-loop-left : goal.decreases-loop-left
-decreases-loop-left l = l.left
+invariant-loop-left l = seek l.memory (get_or l.memory at_grounds 0) head_length l.number ≡ seek l.memory l._left l.place l.number
