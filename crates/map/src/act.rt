@@ -16,6 +16,7 @@ pub enum Act {
 
 impl Act {
     // Tells the world outside; what is shown goes to the front of a lent row.
+    #[tactic(auto, unfolding(crate::specs::Entry::ActTold))]
     pub(crate) fn told(self, out: &mut [u64]) -> Told
         requires { 1 ≤ length out.old }
         ensures { ActTold (act_of self) result out.old out.new }

@@ -27,6 +27,7 @@ fn records_behind(memory: &Memory, place: usize) -> Option<Range<usize>>
 }
 
 // Drops the ground with this number. In a memory that never held one there, it is not there.
+#[tactic(auto, using(crate::proofs::Removals::moved_over), unfolding(crate::specs::Machine::acts, crate::specs::Machine::drop_step))]
 pub(crate) fn drop_ground(memory: &mut Memory, number: u64) -> Act
     ensures { Takes result memory.new (acts memory.old (said (drop_it number))) }
 {

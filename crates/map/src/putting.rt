@@ -20,6 +20,7 @@ use ground::{Extent, is_ground};
 use terms::Refusal;
 
 // The box of a row that is a ground.
+#[tactic(auto, using(crate::proofs::Insertions::ground_boxed))]
 fn ground_box(row: Row<'_>) -> Option<Extent>
     ensures { MatchOption result (a_shape (shape_of row.entry.numbers.now) ≡ false) (λ e. (a_shape (shape_of row.entry.numbers.now) ≡ true) × (e ≡ box_of (shape_of row.entry.numbers.now))) }
 {
@@ -65,6 +66,7 @@ fn write_record(memory: &mut Memory, place: usize, number: u64, bounds: Extent, 
 }
 
 // Puts a ground under a number. Each check hands on what the next one needs, and nothing moves before the last.
+#[tactic(auto, using(ground::proofs::Closing::shape_many, crate::proofs::Insertions::put_record), unfolding(crate::specs::Machine::acts, crate::specs::Machine::put_step))]
 pub(crate) fn put_ground(memory: &mut Memory, number: u64, row: Row<'_>) -> Act
     ensures { Takes result memory.new (acts memory.old (said (put number (shape_of row.entry.numbers.now)))) }
 {

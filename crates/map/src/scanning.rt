@@ -34,6 +34,7 @@ fn box_at(memory: &Memory, place: usize) -> Extent
 
 // Whether the ground of the record from `place` to `end` has the point. Its box comes first: four comparisons with the box around the point
 // pass over most grounds. Numbers that are no corners' make no ground.
+#[tactic(auto, using(crate::proofs::Listings::box_tells, crate::proofs::Listings::looked, crate::proofs::Listings::cut), unfolding(crate::specs::Memory::has_at))]
 fn has_at(memory: &Memory, place: usize, end: usize, aim: Aim) -> bool
     requires place_value { whole_at memory.now place ≡ true }
     requires end_value { end ≡ behind memory.now place }
