@@ -9,7 +9,7 @@ use crate::failing::AskError;
 use crate::layout::MEMORY_LENGTH;
 use std::alloc::{AllocError, Global};
 
-// Runs a request in cells that are a memory.
+// Runs a request in cells that are a memory. By itself, since no proof is found where a borrow is handed on twice in one function.
 fn run_in(cells: &mut [u64], request: Request<'_>, shown: &mut Vec<u64>) -> Result<(), AskError>
     requires { length cells.old ≡ 262144 }
     ensures { RanThrough cells.old (event_said request.entry) cells.new shown.old.items shown.new.items result }
@@ -20,7 +20,7 @@ fn run_in(cells: &mut [u64], request: Request<'_>, shown: &mut Vec<u64>) -> Resu
     run(memory, request, shown)
 }
 
-// A map and all that it keeps: its memory always has the machine's length.
+// A map and all that it keeps: its memory always has the machine's length. It is no boxed array, since that would first stand on the stack.
 #[derive(Drop)]
 pub struct Machine {
     memory: Vec<u64>,

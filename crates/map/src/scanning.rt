@@ -19,7 +19,7 @@ pub struct Hit {
     pub left: u64,
 }
 
-// The box of the record at `place`.
+// The box of the record at `place`, by named places: a pattern over the numbers there would say less of what stands where.
 fn box_at(memory: &Memory, place: usize) -> Extent
     requires { place + record_length ≤ memory_length }
     ensures { result ≡ box_at memory.now place }
