@@ -5,6 +5,7 @@ pub mod Decimals
 pub mod Digits
 pub mod Division
 pub mod Euclid
+mod Firsts
 pub mod Greatest
 pub mod Lowest
 pub mod Marks

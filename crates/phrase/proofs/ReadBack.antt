@@ -9,6 +9,7 @@ use Rattle.phrase.specs.declared.word.Word.{Word}
 use Rattle.phrase.specs.declared.word.Word.TheVariants.{Named, Whole}
 use Rattle.phrase.specs.Commands.{put, drops, at_point, how_lie, all_that_lie, area_of, help, quit, nothing}
 use Rattle.phrase.specs.Grammar.{row_words, command}
+use Rattle.phrase.specs.Kinds.{begins}
 use Rattle.phrase.specs.Numbers.{bind}
 use Rattle.phrase.specs.Points.{near}
 use Rattle.phrase.specs.Rows.{wholes}
@@ -62,7 +63,7 @@ abbrev after_name : Name → Option (List Word) → Option (List Word)
 after_name n o = bind o (λ xs. Some (Named n ∷ xs))
 
 pub read_back : ReadsBack
-unfolding plain cut all_words
+unfolding plain cut all_words begins
 read_back (put n row) h = ap (λ o. bind (after_name names.Put o) command) (row_told n 0 row h.0 h.1) ∙ row_back n row h.2
 read_back (drops n) h = ap (λ o. bind (after_name names.Drop o) command) (last_number n h)
 read_back (at_point a b w) h =

@@ -1,10 +1,9 @@
 -- Which command a list of words is.
-use Rattle.std.specs.Prelude.{ℕ, Bool, false, ◌%◌, cond, List, [], ◌∷◌, length, Some, None, Option, ◌==◌}
-use Rattle.phrase.specs.declared.word.Name.{Name}
-use Rattle.phrase.specs.declared.word.Name.TheVariants.{Put, Drop, At, Point, How, Lie, All, That, On, Area, Of, Help, Quit}
+use Rattle.std.specs.Prelude.{ℕ, ◌%◌, cond, List, [], ◌∷◌, length, drop, Some, None, Option, ◌==◌}
+use Rattle.phrase.specs.Kinds as kinds
 use Rattle.phrase.specs.declared.word.Word.{Word}
-use Rattle.phrase.specs.declared.word.Word.TheVariants.{Named, Whole, Fraction}
 use Rattle.phrase.specs.Commands.{Said, put, drops, at_point, how_lie, all_that_lie, area_of, help, quit, nothing}
+use Rattle.phrase.specs.Kinds.{Kind, kind}
 use Rattle.phrase.specs.Numbers.{bind}
 use Rattle.phrase.specs.Points.{point}
 use Rattle.phrase.specs.Rows.{whole_of, wholes, one_number, two_numbers}
@@ -38,57 +37,20 @@ abbrev pub alone : Said → List Word → Option Said
 alone c [] = Some c
 alone c (w ∷ ws) = None
 
--- the place of a name in the list of names
-abbrev pub rank : Name → ℕ
-rank Put = 0
-rank Drop = 1
-rank At = 2
-rank Point = 3
-rank How = 4
-rank Lie = 5
-rank All = 6
-rank That = 7
-rank On = 8
-rank Area = 9
-rank Of = 10
-rank Help = 11
-rank Quit = 12
-
-abbrev pub is_name : Name → Word → Bool
-is_name n (Named m) = rank n == rank m
-is_name n (Whole k) = false
-is_name n (Fraction over under) = false
-
--- what stands behind the name n, if the words begin with it
-abbrev pub behind : Name → List Word → Option (List Word)
-behind n [] = None
-behind n (w ∷ ws) = cond (is_name n w) (Some ws) None
-
--- what the words behind a name say, if it is not `put`
-abbrev pub bare : Name → List Word → Option Said
-bare Put ws = None
-bare Drop ws = drop_words ws
-bare At ws = bind (behind Point ws) point_words
-bare Point ws = None
-bare How ws = bind (behind Lie ws) lie_words
-bare Lie ws = None
-bare All ws = bind (behind That ws) (λ us. bind (behind Lie us) (λ vs. bind (behind On vs) all_lie_words))
-bare That ws = None
-bare On ws = None
-bare Area ws = bind (behind Of ws) area_words
-bare Of ws = None
-bare Help ws = alone help ws
-bare Quit ws = alone quit ws
-
--- what the words behind the first say
-abbrev pub begun : Word → List Word → Option Said
-begun (Named n) ws = cond (rank n == rank Put) (put_words ws) (bare n ws)
-begun (Whole k) ws = None
-begun (Fraction over under) ws = None
+-- what the words behind a phrase say
+abbrev pub said_by : Kind → List Word → Option Said
+said_by kinds.puts ws = put_words (drop 1 ws)
+said_by kinds.drops ws = drop_words (drop 1 ws)
+said_by kinds.at_point ws = point_words (drop 2 ws)
+said_by kinds.how_lie ws = lie_words (drop 2 ws)
+said_by kinds.all_that_lie ws = all_lie_words (drop 4 ws)
+said_by kinds.area_of ws = area_words (drop 2 ws)
+said_by kinds.helps ws = alone help (drop 1 ws)
+said_by kinds.quits ws = alone quit (drop 1 ws)
+said_by kinds.other ws = alone nothing ws
 
 abbrev pub command : List Word → Option Said
-command [] = Some nothing
-command (w ∷ ws) = begun w ws
+command ws = said_by (kind ws) ws
 
 -- what a line says
 abbrev pub meaning : List ℕ → Option Said

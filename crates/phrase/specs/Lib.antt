@@ -1,7 +1,9 @@
 pub mod Answers
 pub mod Commands
 pub mod Digits
+pub mod Firsts
 pub mod Grammar
+pub mod Kinds
 pub mod Lines
 pub mod Numbers
 pub mod Points

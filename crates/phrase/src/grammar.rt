@@ -2,7 +2,8 @@
 ghost use Rattle.std.specs.Prelude.{◌≡◌};
 ghost use Rattle.std.specs.Option.{option_map};
 ghost use Rattle.phrase.specs.Commands.{said};
-ghost use Rattle.phrase.specs.Grammar.{row_words, put_words, behind, bare, command};
+ghost use Rattle.phrase.specs.Firsts.{behind, bare, by_first};
+ghost use Rattle.phrase.specs.Grammar.{row_words, put_words};
 ghost use Rattle.phrase.specs.Reading.{Reads};
 
 use crate::command::Command;
@@ -70,9 +71,9 @@ fn bare_command(name: Name, words: &[Word]) -> Option<Command>
     }
 }
 
-// The command that the words are.
+// The command that the words are, told by the first of them.
 pub(crate) fn read_phrase(heap: Global, words: &[Word]) -> Result<Command, NotUnderstood>
-    ensures { Reads result (command words.now) said }
+    ensures { Reads result (by_first words.now) said }
 {
     match words {
         [] => Ok(Command::Nothing),

@@ -10,6 +10,7 @@ use crate::words::read_words;
 use std::alloc::Global;
 
 // The command that a line is. The line comes without its newline.
+#[tactic(auto, using(crate::proofs::Firsts::meaning_by_first))]
 pub fn read_command(heap: Global, line: &[u8]) -> Result<Command, NotUnderstood>
     ensures { Reads result (meaning line.now) said }
 {
