@@ -1,5 +1,6 @@
 -- The text of an answer, and what became of the machine.
-use Rattle.std.proofs.Common.{◌≡◌, ℕ, true, List, [], ◌++◌, is_err, IfOk, Some, None, Ok, Err, Option, Result, refl, ap, ◌∙◌, subst, arith}
+use Rattle.std.proofs.Common.{◌≡◌, ℕ, true, List, [], ◌++◌, is_err, IfOk, Some, None, Ok, Err, Option, Result, refl, ap, ◌∙◌, subst}
+use Rattle.std.proofs.lemmas.Bool.{false≢true}
 use Rattle.std.specs.declared.alloc.AllocError.{AllocError}
 use Rattle.map.specs.Asking.{End, Went, RanThrough}
 use Rattle.map.specs.Promise.{Event}
@@ -23,7 +24,7 @@ same_text (Area number twice) = refl
 same_text (NotUnderstood line) = refl
 
 nothing_made : {X : Type 0} (r : Result X AllocError) (P : X → Type 0) → is_err r ≡ true → IfOk r P
-nothing_made (Ok x) P h = let z : ◌≡◌ {A = ℕ} 0 1 = cc in absurd (omega arith)
+nothing_made (Ok x) P h = absurd (false≢true h)
 nothing_made (Err e) P h = tt
 
 made_alike : {X : Type 0} (r : Result X AllocError) (f : X → List ℕ) (xs ys : List ℕ) → xs ≡ ys → IfOk r (λ x. f x ≡ xs) → IfOk r (λ x. f x ≡ ys)

@@ -1,5 +1,6 @@
 -- Going on with a request: each row that is shown leaves fewer records to look at, and what came of all the steps.
 use Rattle.std.proofs.Common.{◌≡◌, ℕ, zero, suc, ◌+◌, ◌<◌, Bool, true, false, ◌&&◌, eqb, ltb, leb, List, [], ◌∷◌, ◌++◌, length, get_or, set, Ok, Err, sym, refl, ap, ◌∙◌, append_assoc, append-nil, zero-add, subst, arith, length-set, get_or-set_other, get_or-set_same, eq-eqb}
+use Rattle.std.proofs.lemmas.Bool.{false≢true}
 use Rattle.terms.specs.Refusals.{refusal_number}
 use Rattle.terms.specs.declared.refusal.Refusal.{Refusal}
 use Rattle.terms.specs.declared.refusal.Refusal.TheVariants.{OutOfRange, NotKnown, NotThere, Taken, NoGround, NoRoom}
@@ -15,9 +16,6 @@ use Rattle.map.specs.Asking.{flattened, End, Went}
 use Rattle.map.specs.declared.act.Act as code
 use Rattle.map.specs.declared.act.Act.TheVariants.{Shows, Done, Refused}
 
-no_bool : false ≡ true → ⊥
-no_bool e = let z : ◌≡◌ {A = ℕ} 0 1 = cc in omega arith
-
 -- in a memory of its own length the machine does what is said of all memories
 pub own_acts : (m : List ℕ) (ev : Event) → length m ≡ memory_length → acts m ev ≡ own.step m ev
 unfolding own
@@ -28,11 +26,11 @@ fewer : (b c : Bool) (x : Listed) (k p : ℕ) → (x.found ≡ true → x.left <
     (pick b (pick c (listed true p k) x) (listed false p 0)).found ≡ true → (pick b (pick c (listed true p k) x) (listed false p 0)).left < suc k
 fewer true true x k p h e = omega arith
 fewer true false x k p h e = let l = h e in omega arith
-fewer false c x k p h e = absurd (no_bool e)
+fewer false c x k p h e = absurd (false≢true e)
 
 scan_left : (m : List ℕ) (v : Point) (k p : ℕ) → (scan m v k p).found ≡ true → (scan m v k p).left < k
 unfolding scan
-scan_left m v zero p e = absurd (no_bool e)
+scan_left m v zero p e = absurd (false≢true e)
 scan_left m v (suc k) p e = fewer (whole_at m p) (has_at m p v) (scan m v k (behind m p)) k p (scan_left m v k (behind m p)) e
 
 -- a step that goes on and shows a row leaves fewer records than there were
@@ -44,10 +42,10 @@ unfolding Fewer
 not_shown m m₁ a never r e = absurd (never r e)
 
 done_shows : (r : List ℕ) → done ≡ shows r → ⊥
-done_shows r e = let z : ◌≡◌ {A = ℕ} 0 1 = cc in omega arith
+done_shows r e = cc
 
 refused_shows : (k : ℕ) (r : List ℕ) → refused k ≡ shows r → ⊥
-refused_shows k r e = let z : ◌≡◌ {A = ℕ} 0 1 = cc in omega arith
+refused_shows k r e = cc
 
 -- what the cursor says of the records that are left
 left_opened : (m : List ℕ) (p k : ℕ) (v : Point) → length m ≡ memory_length → get_or (opened m p k v) at_left 0 ≡ k
