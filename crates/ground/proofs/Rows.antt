@@ -24,9 +24,6 @@ pub shape_none : (xs : List ℕ) → length xs < 2 → shape_of xs ≡ []
 unfolding corners
 shape_none xs h = let none : length xs / 2 ≡ 0 = omega arith in ap (λ n. corners n xs) none
 
--- a function of what is left of a row, one corner on and at the end
+-- a function of what is left of a row, one corner on
 pub at_more : {Y : Type 0} (F : Shape → Y) (xs : List ℕ) → 2 ≤ length xs → F (shape_of xs) ≡ F (front xs ∷ shape_of (beyond xs))
 at_more F xs h = ap F (shape_more xs h)
-
-pub at_none : {Y : Type 0} (F : Shape → Y) (xs : List ℕ) → length xs < 2 → F (shape_of xs) ≡ F []
-at_none F xs h = ap F (shape_none xs h)
