@@ -1,8 +1,10 @@
 // Rows of corners, as they are handed on.
 ghost use Rattle.std.specs.Prelude.{◌≡◌, ◌%◌, ◌≤◌, length};
 
-// Two numbers for each of 256 corners.
-pub(crate) const LONGEST_ROW: usize = 512;
+use ground::MOST_CORNERS;
+
+// Two numbers for each of the most corners that a ground may have.
+pub(crate) const LONGEST_ROW: usize = 2 * MOST_CORNERS;
 
 // A lent row of whole corners, no more of them than a ground may have.
 #[derive(Clone, Copy)]
