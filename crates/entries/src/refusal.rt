@@ -29,7 +29,7 @@ fn refusal_words(
     }
 }
 
-// Why the machine refused to put a row under a number: of what is no ground, the reason.
+// Why the machine refused to put a row under a number: of what is no ground, the reason. A text and no `Display`: the reason has to be looked for in the row first.
 pub fn refusal_text(
     heap: Global,
     refusal: Refusal,

@@ -48,6 +48,7 @@ fn in_range(row: &[u64]) -> Result<(), NoGround>
     requires { WellSized row.now }
     ensures { MatchResult result (λ _. InRange row.now) (λ why. Refuses row.now why) }
 {
+    // No `?`: what is found is a place, and no error to hand on.
     match first_far(row) {
         None => Ok(()),
         Some(corner) => Err(NoGround::OutOfRange { corner }),

@@ -1,4 +1,5 @@
-// Where things stand in the memory: a head, and behind it one record for each ground, by rising numbers.
+// Where things stand in the memory: a head, and behind it one record for each ground, by rising numbers. Places and no structs: the memory is lent as numbers, and
+// there is no heap in it.
 
 // So many numbers of 64 bits.
 pub const MEMORY_LENGTH: usize = 262144;

@@ -1,5 +1,6 @@
 // Rings that are made of another by a change of some of its corners.
 use crate::ring::Ring;
+use crate::segment::Segment;
 use crate::spot::Spot;
 use figures::Random;
 use std::alloc::{AllocError, Global};
@@ -12,16 +13,16 @@ impl Ring {
         random: &mut Random,
     ) -> Result<Self, AllocError> {
         let mut corners = Vec::new(heap);
-        for (place, corner) in self.corners.iter().enumerate() {
-            corners.push(*corner)?;
+        for edge in Segment::all(heap, self)? {
+            corners.push(edge.from)?;
             if random.one_in(3) {
-                corners.push(self.edge(place).part(1, 2))?;
+                corners.push(edge.part(1, 2))?;
             }
         }
         Ok(Ring { corners })
     }
 
-    // A ring with upright and level edges, each moved so many ells toward the inside.
+    // A ring with upright and level edges, each moved so many ells toward the inside. By places: each corner is moved by the edges on both of its sides.
     pub(crate) fn inset(&self, heap: Global, depth: i64) -> Result<Self, AllocError> {
         let mut corners = Vec::new(heap);
         for (place, corner) in self.corners.iter().enumerate() {
@@ -46,9 +47,8 @@ impl Ring {
         parts: u32,
     ) -> Result<Self, AllocError> {
         let mut corners = Vec::new(heap);
-        for (place, corner) in self.corners.iter().enumerate() {
-            corners.push(*corner)?;
-            let edge = self.edge(place);
+        for edge in Segment::all(heap, self)? {
+            corners.push(edge.from)?;
             for share in 1..parts {
                 let spot = edge.part(i64::from(share), parts);
                 if other.borders_on(spot) {

@@ -34,10 +34,9 @@ fn read_name(text: &[u8]) -> Option<Name>
 fn read_word(text: &[u8]) -> Option<Word>
     ensures { result ≡ word text.now }
 {
-    match read_name(text) {
-        Some(name) => Some(Word::Named(name)),
-        None => read_number(text),
-    }
+    read_name(text)
+        .map(Word::Named)
+        .or_else(|| read_number(text))
 }
 
 fn is_separator(b: u8) -> bool

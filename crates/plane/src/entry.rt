@@ -10,7 +10,7 @@ use crate::corner::Corner;
 use crate::reply::Reply;
 use crate::turning::Turn;
 
-// The number of the refusal of corners that are too far away.
+// The number of the refusal of corners that are too far away, as the entry tells it.
 const TOO_FAR: u64 = 1;
 
 // How it turns on the way from a over b to c; refused with 1 if a number is 2^31 or more.

@@ -23,7 +23,7 @@ fn write_grounds(rt: &HostRuntime, book: &Book) -> anyhow::Result<()> {
     Ok(())
 }
 
-// Does what was asked with the register that was read.
+// Does what was asked with the register that was read. The three want different things of it, so no function is handed on in place of a mode.
 fn work(rt: &HostRuntime, mode: Mode, book: &mut Book) -> anyhow::Result<()> {
     match mode {
         Mode::Converse => converse(rt, &mut book.machine),

@@ -28,6 +28,7 @@ impl Machine {
         })
     }
 
+    // By a number, since numbers that are no kind are tried too.
     fn step(&mut self, kind: u64, a: u64, b: u64, c: u64, row: &[u64]) -> Told {
         step(
             self.memory.as_mut_slice(),
