@@ -32,7 +32,7 @@ fn window(heap: Global, words: &[String]) -> Result<Option<Window>, Problem> {
                 columns: count(heap, columns.as_str())?,
                 rows: count(heap, rows.as_str())?,
             };
-            Ok(Some(window.checked().map_err(Problem::BadWindow)?))
+            Ok(Some(window.checked()?))
         }
         _ => Err(Problem::Usage),
     }

@@ -1,49 +1,25 @@
 // What can be wrong, in words.
 use raster::Flaw;
-use std::alloc::{AllocError, AllocFailed};
-use std::{fmt, io};
+use std::alloc::AllocError;
+use std::io;
+use thiserror::Error;
 
-#[derive(Drop)]
+#[derive(Debug, Drop, Error)]
 pub enum Problem {
     // Not the words that are wanted.
+    #[error("say: draw FILE, or: draw FILE x y step columns rows")]
     Usage,
+    #[error("not a whole number, or too large: {0}")]
     NoNumber(String),
-    BadWindow(Flaw),
+    #[error("{0}")]
+    BadWindow(#[from] Flaw),
+    #[error("cannot read {0}: {1}")]
     Unreadable(String, io::Error),
+    #[error("there are no grounds to draw in {0}")]
     NoGrounds(String),
-    OutOfMemory,
+    #[error("out of memory")]
+    OutOfMemory(#[from(alloc)] AllocError),
     // The picture cannot be written.
-    Unwritable(io::Error),
-}
-
-impl fmt::Display for Problem {
-    fn fmt<W: fmt::Write>(&self, f: &mut fmt::Formatter<W>) -> fmt::Result {
-        match self {
-            Problem::Usage => write!(f, "say: draw FILE, or: draw FILE x y step columns rows"),
-            Problem::NoNumber(word) => write!(f, "not a whole number, or too large: {word}"),
-            Problem::BadWindow(flaw) => write!(f, "{flaw}"),
-            Problem::Unreadable(file, error) => write!(f, "cannot read {file}: {error}"),
-            Problem::NoGrounds(file) => write!(f, "there are no grounds to draw in {file}"),
-            Problem::OutOfMemory => write!(f, "out of memory"),
-            Problem::Unwritable(error) => write!(f, "cannot write the picture: {error}"),
-        }
-    }
-}
-
-impl From<AllocError> for Problem {
-    fn from(_error: AllocError) -> Self {
-        Problem::OutOfMemory
-    }
-}
-
-impl<T: Drop> From<AllocFailed<T>> for Problem {
-    fn from(_refused: AllocFailed<T>) -> Self {
-        Problem::OutOfMemory
-    }
-}
-
-impl From<io::Error> for Problem {
-    fn from(error: io::Error) -> Self {
-        Problem::Unwritable(error)
-    }
+    #[error("cannot write the picture: {0}")]
+    Unwritable(#[from] io::Error),
 }

@@ -3,6 +3,7 @@ use crate::chart::Chart;
 use crate::problem::Problem;
 use entries::{Entry, ReadError, read_entry, refusal_text};
 use map::AskError;
+use std::alloc::AllocError;
 use std::io::{BufRead, BufReader};
 use std::{fs, io};
 
@@ -22,7 +23,7 @@ fn put(
             let why = refusal_text(rt.alloc(), refusal, number, row)?;
             Ok(eprintln!(rt; "draw: line {place}: ground {number}: {why}")?)
         }
-        Err(AskError::OutOfMemory) => Err(Problem::OutOfMemory),
+        Err(AskError::OutOfMemory) => Err(AllocError.into()),
     }
 }
 
@@ -36,14 +37,15 @@ fn take_line(rt: &HostRuntime, chart: &mut Chart, place: u64, line: &[u8]) -> Re
         Err(ReadError::Wrong(why)) => Ok(eprintln!(rt;
             "draw: line {place}: not understood: {why}"
         )?),
-        Err(ReadError::OutOfMemory) => Err(Problem::OutOfMemory),
+        Err(ReadError::OutOfMemory) => Err(AllocError.into()),
     }
 }
 
 fn unreadable(rt: &HostRuntime, file: &str, error: io::Error) -> Problem {
-    String::from_str(rt.alloc(), file).map_or(Problem::OutOfMemory, |name| {
-        Problem::Unreadable(name, error)
-    })
+    match String::from_str(rt.alloc(), file) {
+        Ok(name) => Problem::Unreadable(name, error),
+        Err(none) => none.into(),
+    }
 }
 
 pub(crate) fn read_register(

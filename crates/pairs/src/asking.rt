@@ -44,7 +44,7 @@ fn look_at(heap: Global, pair: &Pair) -> Result<Option<Seen>, AllocError> {
     match look(heap, &pair.first, &pair.second) {
         Ok(seen) => Ok(Some(seen)),
         Err(Fault::TooLarge) => Ok(None),
-        Err(Fault::NoMemory) => Err(AllocError),
+        Err(Fault::NoMemory(none)) => Err(none),
     }
 }
 

@@ -1,21 +1,12 @@
 // Why the slow way of looking has no answer.
-use std::alloc::{AllocError, AllocFailed};
+use std::alloc::AllocError;
+use thiserror::Error;
 
-#[derive(Drop)]
+#[derive(Debug, Drop, Error)]
 pub enum Fault {
-    NoMemory,
-    // A number that does not fit: it is counted, and never happens on grids so small.
+    #[error("out of memory")]
+    NoMemory(#[from(alloc)] AllocError),
+    // It is counted, and never happens on grids so small.
+    #[error("a number does not fit")]
     TooLarge,
-}
-
-impl From<AllocError> for Fault {
-    fn from(_e: AllocError) -> Fault {
-        Fault::NoMemory
-    }
-}
-
-impl<T: Drop> From<AllocFailed<T>> for Fault {
-    fn from(_e: AllocFailed<T>) -> Fault {
-        Fault::NoMemory
-    }
 }

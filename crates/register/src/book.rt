@@ -1,8 +1,8 @@
 // The grounds of a register, in the machine and as they were read.
 use entries::{Entry, Fault, ReadError, read_entry, refusal_text};
 use map::{AskError, Machine, Request};
-use std::alloc::{AllocError, AllocFailed, Global};
-use std::fmt;
+use std::alloc::{AllocError, Global};
+use thiserror::Error;
 
 // A ground that the machine has taken.
 #[derive(Drop)]
@@ -22,42 +22,23 @@ pub struct Book {
 }
 
 // Why a line of the register was not taken.
-#[derive(Drop)]
+#[derive(Debug, Drop, Error)]
 pub enum NotTaken {
+    #[error("not understood: {0}")]
     NotUnderstood(Fault),
     // A ground that the machine refused, and why.
+    #[error("ground {number}: {why}")]
     Refused { number: u64, why: String },
-    OutOfMemory,
-}
-
-impl fmt::Display for NotTaken {
-    fn fmt<W: fmt::Write>(&self, f: &mut fmt::Formatter<W>) -> fmt::Result {
-        match self {
-            NotTaken::NotUnderstood(fault) => write!(f, "not understood: {fault}"),
-            NotTaken::Refused { number, why } => write!(f, "ground {number}: {why}"),
-            NotTaken::OutOfMemory => write!(f, "out of memory"),
-        }
-    }
+    #[error("out of memory")]
+    OutOfMemory(#[from(alloc)] AllocError),
 }
 
 impl From<ReadError> for NotTaken {
     fn from(error: ReadError) -> Self {
         match error {
             ReadError::Wrong(fault) => NotTaken::NotUnderstood(fault),
-            ReadError::OutOfMemory => NotTaken::OutOfMemory,
+            ReadError::OutOfMemory => AllocError.into(),
         }
-    }
-}
-
-impl From<AllocError> for NotTaken {
-    fn from(_error: AllocError) -> Self {
-        NotTaken::OutOfMemory
-    }
-}
-
-impl<T: Drop> From<AllocFailed<T>> for NotTaken {
-    fn from(_refused: AllocFailed<T>) -> Self {
-        NotTaken::OutOfMemory
     }
 }
 
@@ -79,7 +60,7 @@ impl Book {
         };
         match self.machine.ask(request, &mut shown) {
             Ok(()) => {}
-            Err(AskError::OutOfMemory) => return Err(NotTaken::OutOfMemory),
+            Err(AskError::OutOfMemory) => return Err(AllocError.into()),
             Err(AskError::Refused(refusal)) => {
                 let why = refusal_text(heap, refusal, number, row.as_slice())?;
                 return Err(NotTaken::Refused { number, why });

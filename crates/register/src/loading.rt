@@ -1,7 +1,6 @@
 // Reading the file of a register, line by line.
 use crate::book::{Book, NotTaken};
 use crate::options::{Mode, Options};
-use std::alloc::AllocError;
 use std::fs::File;
 use std::io;
 use std::io::{BufRead, BufReader};
@@ -34,7 +33,7 @@ pub(crate) fn load(rt: &HostRuntime, options: &Options, book: &mut Book) -> anyh
     for (count, line) in (1u64..).zip(input.split(heap, b'\n')) {
         match book.take(heap, line?.as_slice()) {
             Ok(()) => {}
-            Err(NotTaken::OutOfMemory) => return Err(AllocError.into()),
+            Err(NotTaken::OutOfMemory(none)) => return Err(none.into()),
             Err(why) => {
                 book.refused = book.refused.saturating_add(1);
                 complain(rt, options.mode, count, &why)?;
