@@ -29,7 +29,7 @@ fn separates(b: u8) -> bool
     b == b' ' || b == b'\t' || sign(b).is_some()
 }
 
-// Adds the word that ends here, if there is one.
+// Adds the word that ends here, if there is one. A function of phrase is as short over its own words: a shared one would take what is read as a closure.
 fn close(marks: &mut Vec<Mark>, text: &[u8]) -> Result<(), ReadError>
     ensures { Closes result text.now marks.old.items marks.new.items }
 {

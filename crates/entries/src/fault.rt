@@ -76,6 +76,7 @@ impl From<Fault> for ReadError {
     }
 }
 
+// By hand, as the next one: a derived `From` has no contract, and clauses speak of this error.
 impl From<AllocError> for ReadError {
     ghost use Rattle.std.specs.Prelude.{◌≡◌};
     ghost use Rattle.entries.specs.declared.fault.ReadError.TheVariants.{OutOfMemory};

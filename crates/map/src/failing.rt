@@ -23,6 +23,7 @@ impl From<Refusal> for AskError {
     }
 }
 
+// By hand, as the next one: a derived `From` has no contract, and clauses speak of this error.
 impl From<AllocError> for AskError {
     ghost from_gives = { λ _ e. e ≡ OutOfMemory };
 

@@ -11,6 +11,7 @@ pub enum NotUnderstood {
     OutOfMemory,
 }
 
+// By hand, as the next one: a derived `From` has no contract, and clauses speak of this error.
 impl From<AllocError> for NotUnderstood {
     ghost from_gives = { λ _ r. r ≡ OutOfMemory };
 
