@@ -8,7 +8,8 @@ ghost use Rattle.dialogue.specs.Requests.{request_of};
 use map::Request;
 use phrase::Command;
 
-// The request that a command is; help, quitting and an empty line ask nothing.
+// The request that a command is; help, quitting and an empty line ask nothing. A command owns its row and is read from a line, a request borrows one: of one type for
+// both each arm would stay.
 pub fn request_of(command: &Command) -> Option<Request<'_>>
     ensures { option_map event_said result ≡ request_of (said command.now) }
 {

@@ -1,7 +1,8 @@
-// The register, line by line. What is refused is told on standard error, and the rest is drawn.
+// The register, line by line. What is refused is told on standard error, and the rest is drawn. `register` reads one too, and tells what is wrong elsewhere and
+// otherwise: what the two have in common is what a line means, which is `entries`.
 use crate::chart::Chart;
 use crate::problem::Problem;
-use entries::{Entry, ReadError, read_entry, refusal_text};
+use entries::{Ground, ReadError, read_entry, refusal_text};
 use map::AskError;
 use std::alloc::AllocError;
 use std::io::{BufRead, BufReader};
@@ -32,8 +33,8 @@ fn take_line(rt: &HostRuntime, chart: &mut Chart, place: u64, line: &[u8]) -> Re
         eprintln!(rt; "draw: {place} lines read")?;
     }
     match read_entry(rt.alloc(), line) {
-        Ok(Entry::Nothing) => Ok(()),
-        Ok(Entry::Ground { number, row }) => put(rt, chart, place, number, row.as_slice()),
+        Ok(None) => Ok(()),
+        Ok(Some(Ground { number, row })) => put(rt, chart, place, number, row.as_slice()),
         Err(ReadError::Wrong(why)) => Ok(eprintln!(rt;
             "draw: line {place}: not understood: {why}"
         )?),

@@ -1,8 +1,7 @@
 -- Which entry a line is.
-use Rattle.std.specs.Prelude.{ℕ, Bool, true, false, cond, List, [], ◌∷◌, Ok, Err, vec_items, Result}
+use Rattle.std.specs.Prelude.{ℕ, Bool, true, false, cond, List, [], ◌∷◌, Some, None, Ok, Err, vec_items, Option, Result}
 use Rattle.phrase.specs.Words.{plain}
-use Rattle.entries.specs.declared.entry.Entry.{Entry}
-use Rattle.entries.specs.declared.entry.Entry.TheVariants.{Nothing, Ground}
+use Rattle.entries.specs.declared.entry.Ground.{Ground}
 use Rattle.entries.specs.declared.fault.Fault.{Fault}
 use Rattle.entries.specs.declared.fault.Fault.TheVariants.{NoNumber}
 use Rattle.entries.specs.declared.mark.Mark.{Mark}
@@ -17,9 +16,9 @@ pub data Said : Type 0 where
   nothing : Said
   ground : ℕ → List ℕ → Said
 
-abbrev pub entry_said : Entry → Said
-entry_said Nothing = nothing
-entry_said (Ground number row) = ground number (vec_items row)
+abbrev pub entry_said : Option Ground → Said
+entry_said None = nothing
+entry_said (Some g) = ground g.number (vec_items g.row)
 
 abbrev pub is_colon : Mark → Bool
 is_colon (Number n) = false

@@ -49,7 +49,7 @@ fn add_sign(marks: &mut Vec<Mark>, b: u8) -> Result<(), ReadError>
     Ok(())
 }
 
-// Every mark of a text without a comment.
+// Every mark of a text without a comment. A word is gathered byte by byte: `split_inclusive` was tried, and its goals stayed open.
 fn cut_marks(heap: Global, text: &[u8]) -> Result<Vec<Mark>, ReadError>
     ensures { Reads result (marks [] text.now) (λ v. v.items) }
 {

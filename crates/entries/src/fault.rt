@@ -22,14 +22,15 @@ pub enum Fault {
     NotClosed,
 }
 
-impl fmt::Display for Fault {
-    ghost use Rattle.std.specs.Prelude.{Some};
+impl Fault {
+    ghost use Rattle.std.specs.Prelude.{◌≡◌};
     ghost use Rattle.entries.specs.Reasons.{fault_words};
 
-    ghost output = { λ fault. Some (fault_words fault) };
-
-    fn fmt<W: fmt::Write>(&self, f: &mut fmt::Formatter<W>) -> fmt::Result {
-        f.write_str(match self {
+    // What is wrong, in words.
+    pub fn text(self) -> &'static str
+        ensures { result.now ≡ fault_words self }
+    {
+        match self {
             Fault::NoNumber => "no number of a ground at its beginning",
             Fault::TooLarge => "a number of 2^64 or more",
             Fault::NotANumber => "a word where a number should stand",
@@ -38,7 +39,18 @@ impl fmt::Display for Fault {
             Fault::NotAPolygon =>
                 "no polygon of corners with commas between them, in two pairs of brackets",
             Fault::NotClosed => "the last corner of the ring is not the first again",
-        })
+        }
+    }
+}
+
+impl fmt::Display for Fault {
+    ghost use Rattle.std.specs.Prelude.{Some};
+    ghost use Rattle.entries.specs.Reasons.{fault_words};
+
+    ghost output = { λ fault. Some (fault_words fault) };
+
+    fn fmt<W: fmt::Write>(&self, f: &mut fmt::Formatter<W>) -> fmt::Result {
+        f.write_str(self.text())
     }
 }
 

@@ -3,7 +3,7 @@ ghost use Rattle.std.specs.Prelude.{◌≡◌};
 ghost use Rattle.entries.specs.Grammar.{entry_said, after_colon, row_of, entry_of};
 ghost use Rattle.entries.specs.Reading.{Reads};
 
-use crate::entry::Entry;
+use crate::entry::Ground;
 use crate::fault::{Fault, ReadError};
 use crate::mark::Mark;
 use crate::ring::read_ring;
@@ -31,17 +31,17 @@ fn read_corners(heap: Global, marks: &[Mark]) -> Result<Vec<u64>, ReadError>
 }
 
 // The entry that the marks are.
-pub(crate) fn entry_of(heap: Global, marks: &[Mark]) -> Result<Entry, ReadError>
+pub(crate) fn entry_of(heap: Global, marks: &[Mark]) -> Result<Option<Ground>, ReadError>
     ensures { Reads result (entry_of marks.now) entry_said }
 {
     match marks {
-        [] => Ok(Entry::Nothing),
+        [] => Ok(None),
         [Mark::Number(number), rest @ ..] => {
             let row = read_corners(heap, after_colon(rest))?;
-            Ok(Entry::Ground {
+            Ok(Some(Ground {
                 number: *number,
                 row,
-            })
+            }))
         }
         _ => Err(ReadError::Wrong(Fault::NoNumber)),
     }

@@ -19,7 +19,7 @@ mod row;
 mod wkt;
 mod word;
 
-pub use entry::Entry;
+pub use entry::Ground;
 pub use fault::{Fault, ReadError};
 pub use laws::written_is_read_back;
 pub use reading::read_entry;

@@ -53,7 +53,7 @@ impl Random {
         self.below(count) == 0
     }
 
-    // A place in a row of so many; 0 where there is none.
+    // A place in a row of so many; 0 where there is none. As `below`, in the width of places: by the one or the other there would be a conversion that may fail.
     pub fn place(&mut self, count: usize) -> usize
         ensures goes_on { self.new ≡ following self.old }
         ensures value { result ≡ among (drawn self.new) count }

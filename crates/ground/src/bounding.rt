@@ -99,11 +99,11 @@ impl Extent {
     fn grown_to(self, c: Corner) -> Extent
         ensures { result ≡ grown_to self (at c) }
     {
-        Extent {
-            west: self.west.min(c.x),
-            south: self.south.min(c.y),
-            east: self.east.max(c.x),
-            north: self.north.max(c.y),
-        }
+        self.together(Extent {
+            west: c.x,
+            south: c.y,
+            east: c.x,
+            north: c.y,
+        })
     }
 }

@@ -44,15 +44,12 @@ fn well_sized(row: &[u64]) -> Result<usize, NoGround>
 }
 
 // No corner is out of range.
+#[tactic(auto, using(crate::proofs::Grounds::refuses_far))]
 fn in_range(row: &[u64]) -> Result<(), NoGround>
     requires { WellSized row.now }
     ensures { MatchResult result (λ _. InRange row.now) (λ why. Refuses row.now why) }
 {
-    // No `?`: what is found is a place, and no error to hand on.
-    match first_far(row) {
-        None => Ok(()),
-        Some(corner) => Err(NoGround::OutOfRange { corner }),
-    }
+    first_far(row).map_or(Ok(()), |corner| Err(NoGround::OutOfRange { corner }))
 }
 
 // Twice the area of a ring that is gone round to the left: then nothing is wrong.

@@ -25,7 +25,7 @@ pub enum Event<'a> {
 }
 
 impl<'a> Event<'a> {
-    // The event that the numbers of a step tell: here alone numbers stand for kinds, since a step is taken through an interface of plain numbers.
+    // The event that the numbers of a step tell: in the machine numbers stand for kinds here alone, since a step is taken through an interface of plain numbers.
     #[tactic(auto, unfolding(crate::specs::Entry::event_of))]
     pub(crate) fn numbered(kind: u64, a: u64, b: u64, c: u64, row: &'a [u64]) -> Option<Event<'a>>
         ensures { MatchOption result (6 < kind) (λ e. (kind ≤ 6) × (event_heard e ≡ event_of kind a b c (handed row.now))) }

@@ -44,7 +44,7 @@ impl fmt::Display for AskError {
     fn fmt<W: fmt::Write>(&self, f: &mut fmt::Formatter<W>) -> fmt::Result {
         match self {
             AskError::Refused(why) => write!(f, "refused {}", u64::from(*why)),
-            AskError::OutOfMemory => write!(f, "out of memory"),
+            AskError::OutOfMemory => write!(f, "{}", AllocError),
         }
     }
 }

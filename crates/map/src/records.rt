@@ -23,7 +23,8 @@ pub(crate) fn end_of_record(memory: &Memory, place: usize) -> Option<usize>
     Some(place + RECORD_LENGTH + 2 * corners as usize)
 }
 
-// The place of the record with this number, or else the place where it would stand.
+// The place of the record with this number, or else the place where it would stand. A walk by places, as that of `scan`: where it stops short the place is told too,
+// which an iterator over records would not give.
 #[tactic(auto, using(std::proofs::lemmas::Bool::Decides::nat_tests, crate::proofs::Walks::seek_step, crate::proofs::Walks::seek_end))]
 pub(crate) fn seek(memory: &Memory, number: u64) -> Result<usize, usize>
     ensures { Found result (seek memory.now (slice_index memory.now at_grounds) head_length number) }

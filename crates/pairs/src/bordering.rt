@@ -1,4 +1,5 @@
 // Pairs of random rings, many of which share corners and edges or parts of edges.
+use crate::growth::Growth;
 use crate::motion::Motion;
 use crate::pair::Pair;
 use crate::random::{Draw, Field};
@@ -17,7 +18,7 @@ fn grid(random: &mut Random) -> Field {
 
 fn any_ring(heap: Global, random: &mut Random, field: Field) -> Result<Ring, AllocError> {
     let tries = random.below(MOST_TRIES);
-    Ring::random(heap, random, tries, field)
+    Growth { tries, field }.ring(heap, random)
 }
 
 fn stretched_ring(heap: Global, random: &mut Random, factor: u32) -> Result<Ring, AllocError> {
@@ -38,7 +39,7 @@ fn ring_on(
     } else {
         edge.reversed()
     };
-    Ring::on_edge(heap, random, edge, tries, field)
+    Growth { tries, field }.on_edge(heap, random, edge)
 }
 
 pub(crate) fn random(heap: Global, random: &mut Random) -> Result<Pair, AllocError> {

@@ -1,4 +1,5 @@
 // Grounds that are cut in two between two of their corners: the areas add up, the pieces touch, and each lies within the whole.
+use crate::growth::Growth;
 use crate::random::Field;
 use crate::ring::Ring;
 use figures::Random;
@@ -65,7 +66,11 @@ impl Cuts {
         let mut cuts = Cuts::default();
         for _ in 0..RINGS {
             let field = Field::square(random.below(4).wrapping_add(5));
-            let ring = Ring::random(heap, &mut random, TRIES, field)?;
+            let growth = Growth {
+                tries: TRIES,
+                field,
+            };
+            let ring = growth.ring(heap, &mut random)?;
             if ring.is_ground(heap)? {
                 cuts.cut_all(heap, &ring)?;
             }

@@ -14,21 +14,24 @@ impl Ring {
         }
         Ok(ring)
     }
+}
 
+// How a ring grows: how often a corner is tried to be added, and where.
+#[derive(Clone, Copy)]
+pub struct Growth {
+    pub tries: u32,
+    pub field: Field,
+}
+
+impl Growth {
     // More corners of the field, each put between two where a ground is left. The first edge stays.
-    fn grown(
-        self,
-        heap: Global,
-        random: &mut Random,
-        tries: u32,
-        field: Field,
-    ) -> Result<Self, AllocError> {
-        let mut ring = self;
-        for _ in 0..tries {
+    fn grown(self, heap: Global, random: &mut Random, ring: Ring) -> Result<Ring, AllocError> {
+        let mut ring = ring;
+        for _ in 0..self.tries {
             let place = random
                 .place(ring.corners.len().wrapping_sub(1))
                 .wrapping_add(2);
-            let larger = ring.with_corner(heap, place, random.spot(field))?;
+            let larger = ring.with_corner(heap, place, random.spot(self.field))?;
             if larger.is_ground(heap)? {
                 ring = larger;
             }
@@ -38,33 +41,27 @@ impl Ring {
 
     // A random ring that begins with an edge. Where no corner of the field serves, it has the two corners only.
     pub(crate) fn on_edge(
+        self,
         heap: Global,
         random: &mut Random,
         edge: Segment,
-        tries: u32,
-        field: Field,
-    ) -> Result<Self, AllocError> {
+    ) -> Result<Ring, AllocError> {
         let Segment { from, to } = edge;
         let mut ring = Ring::of(heap, &[from, to])?;
         for _ in 0..8u32 {
-            let triangle = Ring::of(heap, &[from, to, random.spot(field)])?;
+            let triangle = Ring::of(heap, &[from, to, random.spot(self.field)])?;
             if triangle.is_ground(heap)? {
                 ring = triangle;
                 break;
             }
         }
-        ring.grown(heap, random, tries, field)
+        self.grown(heap, random, ring)
     }
 
     // A random ring with corners of the field.
-    pub(crate) fn random(
-        heap: Global,
-        random: &mut Random,
-        tries: u32,
-        field: Field,
-    ) -> Result<Self, AllocError> {
-        let from = random.spot(field);
-        let to = random.spot(field);
-        Ring::on_edge(heap, random, Segment { from, to }, tries, field)
+    pub(crate) fn ring(self, heap: Global, random: &mut Random) -> Result<Ring, AllocError> {
+        let from = random.spot(self.field);
+        let to = random.spot(self.field);
+        self.on_edge(heap, random, Segment { from, to })
     }
 }

@@ -34,7 +34,7 @@ impl Ring {
         Ok(Ring { corners })
     }
 
-    // The spot lies on an edge.
+    // The spot lies on an edge. By places, which need no row of edges to be made.
     fn borders_on(&self, spot: Spot) -> bool {
         (0..self.corners.len()).any(|place| self.edge(place).has(spot))
     }

@@ -33,6 +33,7 @@ impl Segment {
     }
 
     // The edges of a ring.
+    // By places, since each goes on to the corner behind its own.
     pub(crate) fn all(heap: Global, ring: &Ring) -> Result<Vec<Segment>, AllocError> {
         (0..ring.corners.len())
             .map(|place| ring.edge(place))

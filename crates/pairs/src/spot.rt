@@ -1,4 +1,5 @@
 // A whole spot of the plane, or the way from one to another. All numbers here are far below 2^30, so that nothing wraps.
+// `trials` has spots of its own: what the second ways of looking shared would be one mistake in both.
 #[derive(Clone, Copy, Default)]
 pub struct Spot {
     pub x: i64,

@@ -1,5 +1,6 @@
 // How often each way came.
 use crate::seen::Seen;
+use std::fmt;
 use terms::Way;
 
 #[derive(Clone, Copy, Default)]
@@ -38,13 +39,18 @@ impl Tally {
     }
 
     pub(crate) fn show(self, rt: &HostRuntime, name: &str) -> anyhow::Result<()> {
-        let pairs = self.pairs;
-        let uncrossed = self.uncrossed;
-        print!(rt; "{name:<22}{pairs:>7}")?;
-        for count in self.ways.iter() {
-            print!(rt; "{count:>7}")?;
-        }
-        println!(rt; "{uncrossed:>11}")?;
+        let counts = self;
+        println!(rt; "{name:<22}{counts}")?;
         Ok(())
+    }
+}
+
+impl fmt::Display for Tally {
+    fn fmt<W: fmt::Write>(&self, f: &mut fmt::Formatter<W>) -> fmt::Result {
+        write!(f, "{:>7}", self.pairs)?;
+        for count in self.ways.iter() {
+            write!(f, "{count:>7}")?;
+        }
+        write!(f, "{:>11}", self.uncrossed)
     }
 }

@@ -10,6 +10,7 @@ const LARGEST_W: u128 = 1048575;
 
 const LARGEST_COORDINATE: u128 = 1099511627775;
 
+// A pair, over and under, till two are brought to one denominator: what is shown in lowest terms is a `Ratio`.
 fn coordinate(word: Word) -> Option<(u64, u64)>
     ensures { result ≡ ratio word }
 {

@@ -45,7 +45,7 @@ fn is_separator(b: u8) -> bool
     matches!(b, b' ' | b'\t' | b',')
 }
 
-// Adds the word that ends here, if there is one.
+// Adds the word that ends here, if there is one. A function of entries is as short over its own marks: a shared one would take what is read as a closure.
 fn close(words: &mut Vec<Word>, text: &[u8]) -> Result<(), NotUnderstood>
     ensures { Closes result text.now words.old.items words.new.items }
 {

@@ -1,20 +1,13 @@
 // The grounds of a register, in the machine and as they were read.
-use entries::{Entry, Fault, ReadError, read_entry, refusal_text};
+use entries::{Fault, Ground, ReadError, read_entry, refusal_text};
 use map::{AskError, Machine, Request};
 use std::alloc::{AllocError, Global};
 use thiserror::Error;
 
-// A ground that the machine has taken.
-#[derive(Drop)]
-pub struct Ground {
-    pub number: u64,
-    pub row: Vec<u64>,
-}
-
 #[derive(Drop)]
 pub struct Book {
     pub machine: Machine,
-    // In the order of the file.
+    // Those that the machine has taken, in the order of the file.
     pub grounds: Vec<Ground>,
     pub corners: u64,
     // How many lines were not taken.
@@ -74,8 +67,8 @@ impl Book {
     // Takes a line of the register, without its newline.
     pub(crate) fn take(&mut self, heap: Global, line: &[u8]) -> Result<(), NotTaken> {
         match read_entry(heap, line)? {
-            Entry::Nothing => Ok(()),
-            Entry::Ground { number, row } => self.put(heap, number, row),
+            None => Ok(()),
+            Some(Ground { number, row }) => self.put(heap, number, row),
         }
     }
 }

@@ -48,15 +48,18 @@ fn word_of(word: &str) -> Word {
 
 // One file, and at most one thing to do with it; nothing where the words are not understood.
 pub(crate) fn read_options(rt: &HostRuntime) -> anyhow::Result<Option<Asked>> {
-    let mut file = None;
+    let mut file = String::new(rt.alloc());
     let mut mode = Mode::default();
     for word in env::args(rt)?.skip(1) {
         match (word_of(word.as_str()), mode) {
             (Word::Help, _) => return Ok(Some(Asked::Help)),
             (Word::Mode(asked), Mode::Converse) => mode = asked,
-            (Word::File, _) if file.is_none() => file = Some(word),
+            (Word::File, _) if file.is_empty() => file = word,
             _ => return Ok(None),
         }
     }
-    Ok(file.map(|file| Asked::Work(Options { file, mode })))
+    if file.is_empty() {
+        return Ok(None);
+    }
+    Ok(Some(Asked::Work(Options { file, mode })))
 }

@@ -59,29 +59,18 @@ fn inside(number: u64) -> Point {
     }
 }
 
-// Each ground of a range is told at a point inside it, alone.
+// At a point inside each triangle of a range its ground is told, alone, if it is there, and none otherwise.
 fn are_told(
     heap: Global,
     machine: &mut Machine,
     numbers: Range<u64>,
+    there: bool,
     outcome: &mut Outcome,
 ) -> Result<(), AllocError> {
     for number in numbers {
         let told = machine.at_point(heap, inside(number))?;
-        outcome.note(told.as_slice() == [number].as_slice());
-    }
-    Ok(())
-}
-
-// At the points of these grounds none is told.
-fn are_gone(
-    heap: Global,
-    machine: &mut Machine,
-    numbers: Range<u64>,
-    outcome: &mut Outcome,
-) -> Result<(), AllocError> {
-    for number in numbers {
-        outcome.note(machine.at_point(heap, inside(number))?.is_empty());
+        let own = [number];
+        outcome.note(told.as_slice() == &own[..usize::from(there)]);
     }
     Ok(())
 }
@@ -98,15 +87,15 @@ pub(crate) fn full_of_grounds(heap: Global) -> Result<Outcome, AllocError> {
     let mut outcome = Outcome::default();
     put_all(&mut machine, 0..1024, &mut outcome);
     outcome.note_full(machine.put(1024, &triangle(1024)));
-    are_told(heap, &mut machine, 0..1024, &mut outcome)?;
+    are_told(heap, &mut machine, 0..1024, true, &mut outcome)?;
     for number in 300..400 {
         outcome.note(machine.remove(number) == Told::Done);
     }
-    are_gone(heap, &mut machine, 300..400, &mut outcome)?;
-    are_told(heap, &mut machine, 0..300, &mut outcome)?;
+    are_told(heap, &mut machine, 300..400, false, &mut outcome)?;
+    are_told(heap, &mut machine, 0..300, true, &mut outcome)?;
     put_all(&mut machine, 1024..1124, &mut outcome);
     outcome.note_full(machine.put(300, &triangle(300)));
-    are_told(heap, &mut machine, 400..1124, &mut outcome)?;
+    are_told(heap, &mut machine, 400..1124, true, &mut outcome)?;
     Ok(outcome)
 }
 

@@ -1,20 +1,10 @@
-use Rattle.std.proofs.Common.{◌≡◌, ℕ, Bool, true, false, List, [], ◌∷◌, ◌++◌, cond, length, is_ok, Ok, Err, Result, vec_items, refl, sym, ◌∙◌, subst, append_assoc, append-nil, rules}
-use Rattle.std.specs.Result.{result_and}
+use Rattle.std.proofs.Common.{◌≡◌, ℕ, true, List, [], ◌∷◌, ◌++◌, length, is_ok, Err, Result, vec_items, refl, sym, append_assoc, append-nil, rules}
 use Rattle.map.specs.Sizes.{memory_length}
 use Rattle.map.specs.Asking.{EndSaid, End, RanThrough}
 use Rattle.map.specs.declared.failing.AskError.{AskError}
 use Rattle.map.specs.declared.failing.AskError.TheVariants.{OutOfMemory}
 use Rattle.map.proofs.Going.{way_begins, way_goes_on, way_done, way_refused, way_named, way_ends, only_done, still_falls}
 use Rattle.map.proofs.asking.run.Goals as goal
-
--- one number more, if it was kept
-added : (shown shown₁ t : List ℕ) (n : ℕ) (kept : Bool) → shown₁ ≡ cond kept (shown ++ n ∷ []) shown → (u : List ℕ) × (shown₁ ≡ shown ++ u) × (kept ≡ true → u ≡ n ∷ [])
-added shown shown₁ t n true e = (n ∷ [], e, λ h. refl)
-added shown shown₁ t n false e = ([], e ∙ sym (append-nil shown), λ h. cc)
-
-both_kept : {E : Type 0} (k r : Result (Unit {0}) E) → is_ok (result_and k r) ≡ true → (is_ok k ≡ true) × (is_ok r ≡ true)
-both_kept (Ok a) r h = (refl, h)
-both_kept (Err e) r h = (h, cc)
 
 wanting : (r : Result (Unit {0}) AskError) (e : End) (s t : List ℕ) → r ≡ Err OutOfMemory → EndSaid r e s t
 wanting r e s t h = rw h tt
@@ -32,7 +22,7 @@ pub loop-done-preserved : goal.loop-done-preserved
 loop-done-preserved c =
     let w = c.loop-done.invariant.1 in
     let n : ℕ = c.in-Shows.number in
-    let more = added (vec_items c.loop-done.shown) (vec_items c.push.new.self) w.1 n (is_ok c.push.result) c.push.ensures.items in
+    let more = c.keep-kept.ensures in
     let joined = append_assoc (vec_items c.args.shown.now) w.1 more.0 in (
       search rules,
       (
@@ -40,9 +30,9 @@ loop-done-preserved c =
         w.1 ++ more.0,
         (cc (w.2, more.1)),
         (λ room.
-            let both = both_kept c.loop-done.kept c.push.result (subst (λ (k : Result (Unit {0}) _). is_ok k ≡ true) c.and-kept.ensures room) in
+            let both = more.2 room in
             let before = w.3 both.0 in
-            let now = more.2 both.1 in
+            let now = both.1 in
             (cc)),
         way_goes_on _ _ n _ _ _ _ c.loop-done.invariant.0 (way_named _ _ _ _ _ _ c.in-Shows.is w.4) c.act-done-in-Shows.ensures,
       ),
