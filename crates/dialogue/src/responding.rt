@@ -18,8 +18,7 @@ fn end_of(asked: Result<(), AskError>) -> Result<Result<(), Refusal>, AllocError
 {
     match asked {
         Ok(()) => Ok(Ok(())),
-        Err(AskError::Refused(why)) => Ok(Err(why)),
-        Err(AskError::OutOfMemory) => Err(AllocError),
+        Err(error) => Ok(Err(error.refusal()?)),
     }
 }
 

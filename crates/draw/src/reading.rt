@@ -3,7 +3,6 @@
 use crate::chart::Chart;
 use crate::problem::Problem;
 use entries::{Ground, ReadError, read_entry, refusal_text};
-use map::AskError;
 use std::alloc::AllocError;
 use std::io::{BufRead, BufReader};
 use std::{fs, io};
@@ -18,14 +17,11 @@ fn put(
     number: u64,
     row: &[u64],
 ) -> Result<(), Problem> {
-    match chart.put(number, row) {
-        Ok(()) => Ok(()),
-        Err(AskError::Refused(refusal)) => {
-            let why = refusal_text(rt.alloc(), refusal, number, row)?;
-            Ok(eprintln!(rt; "draw: line {place}: ground {number}: {why}")?)
-        }
-        Err(AskError::OutOfMemory) => Err(AllocError.into()),
+    if let Err(error) = chart.put(number, row) {
+        let why = refusal_text(rt.alloc(), error.refusal()?, number, row)?;
+        eprintln!(rt; "draw: line {place}: ground {number}: {why}")?;
     }
+    Ok(())
 }
 
 fn take_line(rt: &HostRuntime, chart: &mut Chart, place: u64, line: &[u8]) -> Result<(), Problem> {

@@ -5,7 +5,7 @@ ghost use Rattle.map.specs.Machine.{small_point};
 ghost use Rattle.map.specs.Code.{point_of};
 
 use ground::Extent;
-use terms::Point;
+use terms::{DENOMINATOR_LIMIT, NUMERATOR_LIMIT, Point};
 
 // A point in range, and the least box of whole numbers around it.
 #[derive(Clone, Copy)]
@@ -21,7 +21,10 @@ impl Aim {
     pub(crate) fn at(point: Point) -> Option<Aim>
         ensures { MatchOption result (small_point (point_of point) ≡ false) (λ t. (small_point (point_of point) ≡ true) × (t.point ≡ point)) }
     {
-        if point.w >= 1 << 20 || point.a >= 1 << 40 || point.b >= 1 << 40 {
+        if point.w >= DENOMINATOR_LIMIT
+            || point.a >= NUMERATOR_LIMIT
+            || point.b >= NUMERATOR_LIMIT
+        {
             return None;
         }
         let around = Extent::around(point)?;

@@ -15,6 +15,21 @@ pub enum AskError {
     OutOfMemory,
 }
 
+impl AskError {
+    ghost use Rattle.std.specs.Prelude.{◌≡◌, MatchResult};
+    ghost use Rattle.map.specs.declared.failing.AskError.TheVariants.{Refused, OutOfMemory};
+
+    // Why the machine refused, or the error that memory was wanting, to be handed on.
+    pub fn refusal(self) -> Result<Refusal, AllocError>
+        ensures { MatchResult result (λ why. self ≡ Refused why) (λ _. self ≡ OutOfMemory) }
+    {
+        match self {
+            AskError::Refused(why) => Ok(why),
+            AskError::OutOfMemory => Err(AllocError),
+        }
+    }
+}
+
 impl From<Refusal> for AskError {
     ghost from_gives = { λ why e. e ≡ Refused why };
 

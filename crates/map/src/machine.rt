@@ -18,7 +18,7 @@ use terms::Refusal;
 // So many numbers are shown at once at most.
 const MOST_SHOWN: usize = 2;
 
-// Whether a step can be taken with what was lent for it.
+// Whether a step can be taken with what was lent for it: a row as `Row::handed` takes it, and room for what is shown.
 fn fits(row: &[u64], out: &[u64]) -> bool
     ensures { result ≡ lent_fits row.now out.now }
 {

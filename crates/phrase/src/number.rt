@@ -6,11 +6,10 @@ ghost use Rattle.phrase.specs.Digits.{digit_after, digits_after};
 ghost use Rattle.phrase.specs.Numbers.{more_digits, common, lowest, marked, number_word};
 
 use crate::word::Word;
+use terms::DENOMINATOR_LIMIT;
 
 // No decimal with more places, but 0, has a denominator below 2^20 in lowest terms.
 const MOST_PLACES: usize = 25;
-
-const LARGEST_UNDER: u128 = 1048575;
 
 // Why bytes are no number of 64 bits.
 #[derive(Clone, Copy, PartialEq, Eq, Debug)]
@@ -82,7 +81,7 @@ fn in_lowest_terms(over: u64, under: u128) -> Option<Word>
     }
     let shared = greatest_common(over as u128, under);
     let least = under / shared;
-    if least > LARGEST_UNDER {
+    if least >= DENOMINATOR_LIMIT as u128 {
         return None;
     }
     Some(Word::Fraction {

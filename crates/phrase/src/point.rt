@@ -4,11 +4,7 @@ ghost use Rattle.phrase.specs.Points.{ratio, near, together, point};
 
 use crate::number::greatest_common;
 use crate::word::Word;
-use terms::Point;
-
-const LARGEST_W: u128 = 1048575;
-
-const LARGEST_COORDINATE: u128 = 1099511627775;
+use terms::{DENOMINATOR_LIMIT, NUMERATOR_LIMIT, Point};
 
 // A pair, over and under, till two are brought to one denominator: what is shown in lowest terms is a `Ratio`.
 fn coordinate(word: Word) -> Option<(u64, u64)>
@@ -25,7 +21,11 @@ fn coordinate(word: Word) -> Option<(u64, u64)>
 fn near_point(a: u128, b: u128, w: u128) -> Option<Point>
     ensures { result ≡ near a b w }
 {
-    if w == 0 || w > LARGEST_W || a > LARGEST_COORDINATE || b > LARGEST_COORDINATE {
+    if w == 0
+        || w >= DENOMINATOR_LIMIT as u128
+        || a >= NUMERATOR_LIMIT as u128
+        || b >= NUMERATOR_LIMIT as u128
+    {
         return None;
     }
     Some(Point {

@@ -2,10 +2,7 @@
 ghost use Rattle.std.specs.Prelude.{◌≡◌, ◌^◌, ◌<◌};
 ghost use Rattle.raster.specs.Windows.{side_across, side_up, middle};
 
-use terms::Point;
-
-// The least number that is too large for the coordinates of a point that the machine is asked for.
-const TOO_FAR: u128 = 1 << 40;
+use terms::{NUMERATOR_LIMIT, Point};
 
 // Columns by rows of squares, step by step ells each, from the south-west corner x, y on.
 #[derive(Clone, Copy, PartialEq, Eq, Debug)]
@@ -45,7 +42,7 @@ impl Window {
         }
         let a = self.side_across(column) + self.side_across(column + 1);
         let b = self.side_up(row) + self.side_up(row + 1);
-        if a >= TOO_FAR || b >= TOO_FAR {
+        if a >= NUMERATOR_LIMIT as u128 || b >= NUMERATOR_LIMIT as u128 {
             return None;
         }
         Some(Point {

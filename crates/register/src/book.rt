@@ -1,6 +1,6 @@
 // The grounds of a register, in the machine and as they were read.
 use entries::{Fault, Ground, ReadError, read_entry, refusal_text};
-use map::{AskError, Machine, Request};
+use map::{Machine, Request};
 use std::alloc::{AllocError, Global};
 use thiserror::Error;
 
@@ -51,13 +51,9 @@ impl Book {
             number,
             row: row.as_slice(),
         };
-        match self.machine.ask(request, &mut shown) {
-            Ok(()) => {}
-            Err(AskError::OutOfMemory) => return Err(AllocError.into()),
-            Err(AskError::Refused(refusal)) => {
-                let why = refusal_text(heap, refusal, number, row.as_slice())?;
-                return Err(NotTaken::Refused { number, why });
-            }
+        if let Err(error) = self.machine.ask(request, &mut shown) {
+            let why = refusal_text(heap, error.refusal()?, number, row.as_slice())?;
+            return Err(NotTaken::Refused { number, why });
         }
         self.corners = self.corners.saturating_add(row.len() as u64 / 2);
         self.grounds.push(Ground { number, row })?;

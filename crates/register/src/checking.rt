@@ -1,7 +1,7 @@
 // What is told of a register as a whole: which grounds lie over each other, and how large all are together.
 use crate::book::Book;
 use dialogue::read_neighbours;
-use map::{AskError, Machine, Request};
+use map::{Machine, Request};
 use phrase::Neighbour;
 use std::alloc::{AllocError, Global};
 use std::io;
@@ -19,8 +19,10 @@ fn shown(
     let mut shown = Vec::new(heap);
     match machine.ask(request, &mut shown) {
         Ok(()) => Ok(Some(shown)),
-        Err(AskError::Refused(_)) => Ok(None),
-        Err(AskError::OutOfMemory) => Err(AllocError),
+        Err(error) => {
+            let _why = error.refusal()?;
+            Ok(None)
+        }
     }
 }
 

@@ -8,6 +8,7 @@ use std::io::{BufRead, BufReader};
 // After so many lines it is told how far it is.
 const LINES_TOLD: u64 = 5000;
 
+// Where a line of text goes is asked here and below of the mode: both streams are the runtime's, and a writer handed on would say no more.
 // Tells what is wrong with a line: on standard output, which under --wkt has the grounds alone.
 fn complain(rt: &HostRuntime, mode: Mode, line: u64, why: &NotTaken) -> io::Result<()> {
     if mode == Mode::WellKnownText {

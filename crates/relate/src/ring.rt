@@ -13,8 +13,8 @@ use plane::{CORNER_LIMIT, Corner, Edge};
 
 // The box of a row without corners: no box in range has a point of it.
 const NOWHERE: Extent = Extent {
-    west: 1048576,
-    south: 1048576,
+    west: CORNER_LIMIT,
+    south: CORNER_LIMIT,
     east: 0,
     north: 0,
 };
@@ -66,7 +66,7 @@ impl<'a> Ring<'a> {
         self.bounds.is_apart(other.bounds)
     }
 
-    // Whether all of an edge is to one side of the box.
+    // Whether all of an edge is to one side of the box: its own box, spelt out, costs no call in the loops over edges.
     pub(crate) fn misses(&self, e: Edge) -> bool
         ensures { result ≡ misses (bounds_of (shape_in self.now)) (along e) }
     {

@@ -5,6 +5,6 @@ mod point;
 mod refusal;
 mod way;
 
-pub use point::Point;
+pub use point::{DENOMINATOR_LIMIT, NUMERATOR_LIMIT, Point};
 pub use refusal::Refusal;
 pub use way::{NoWay, Way};

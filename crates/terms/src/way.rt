@@ -26,14 +26,7 @@ impl From<Way> for u64 {
     ghost from_gives = { λ way n. n ≡ way_number way };
 
     fn from(way: Way) -> u64 {
-        match way {
-            Way::Apart => 0,
-            Way::Touch => 1,
-            Way::Within => 2,
-            Way::Around => 3,
-            Way::Same => 4,
-            Way::Over => 5,
-        }
+        way as u64
     }
 }
 

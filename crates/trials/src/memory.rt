@@ -53,6 +53,7 @@ impl Machine {
     pub(crate) fn at_point(&mut self, heap: Global, point: Point) -> Result<Vec<u64>, AllocError> {
         let mut grounds = Vec::new(heap);
         let mut told = self.step(Kind::AtPoint as u64, point.a, point.b, point.w, &[]);
+        // So often at the most, since the check wants an end.
         for _ in 0..2000u32 {
             if told != Told::Shows(1) {
                 break;

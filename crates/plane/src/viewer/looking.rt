@@ -133,7 +133,7 @@ fn floor_of(y: u64, scale: u64) -> u64
     y / scale
 }
 
-// The smallest whole number that is not below y / scale.
+// The smallest whole number that is not below y / scale; by the floor, which spares a second division.
 fn ceiling_of(y: u64, scale: u64, floor: u64) -> u64
     requires { (1 ≤ scale) × ((Floors y scale floor) × (y < 4398046511104)) }
     ensures { Ceils y scale result }
