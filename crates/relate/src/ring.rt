@@ -66,7 +66,7 @@ impl<'a> Ring<'a> {
         self.bounds.is_apart(other.bounds)
     }
 
-    // Whether all of an edge is to one side of the box: its own box, spelt out, costs no call in the loops over edges.
+    // Whether all of an edge is to one side of the box.
     pub(crate) fn misses(&self, e: Edge) -> bool
         ensures { result ≡ misses (bounds_of (shape_in self.now)) (along e) }
     {
