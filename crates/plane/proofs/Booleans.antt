@@ -63,6 +63,10 @@ pub and_false_right : (a : Bool) → (a && false) ≡ false
 and_false_right true = refl
 and_false_right false = refl
 
+pub and_self : (a : Bool) → (a && a) ≡ a
+and_self true = refl
+and_self false = refl
+
 -- two pairs, paired crosswise
 pub and_swap : (a b c d : Bool) → ((a && b) && (c && d)) ≡ ((a && c) && (b && d))
 and_swap true b true d = refl
@@ -92,6 +96,29 @@ or_true_right false = refl
 pub or_false_right : (a : Bool) → or a false ≡ a
 or_false_right true = refl
 or_false_right false = refl
+
+pub or_self : (a : Bool) → or a a ≡ a
+or_self true = refl
+or_self false = refl
+
+pub or_swap : (a b c d : Bool) → or (or a b) (or c d) ≡ or (or a c) (or b d)
+or_swap true b c d = refl
+or_swap false true true d = refl
+or_swap false false true d = refl
+or_swap false true false d = refl
+or_swap false false false d = refl
+
+pub not_or : (a b : Bool) → not (or a b) ≡ (not a && not b)
+not_or true b = refl
+not_or false b = refl
+
+pub and_or : (a b c : Bool) → (a && or b c) ≡ or (a && b) (a && c)
+and_or true b c = refl
+and_or false b c = refl
+
+pub or_and : (a b c : Bool) → or a (b && c) ≡ (or a b && or a c)
+or_and true b c = refl
+or_and false b c = refl
 
 pub or_left : (a b : Bool) → a ≡ true → or a b ≡ true
 or_left true b h = refl
@@ -125,6 +152,10 @@ xor_assoc true true c = sym (not_not c)
 xor_assoc true false c = refl
 xor_assoc false b c = refl
 
+pub xor_true_right : (a : Bool) → xor a true ≡ not a
+xor_true_right true = refl
+xor_true_right false = refl
+
 pub xor_false_right : (a : Bool) → xor a false ≡ a
 xor_false_right true = refl
 xor_false_right false = refl
@@ -132,6 +163,11 @@ xor_false_right false = refl
 pub xor_self : (a : Bool) → xor a a ≡ false
 xor_self true = refl
 xor_self false = refl
+
+-- the same twice cancels
+pub xor_cancel : (a b : Bool) → xor a (xor a b) ≡ b
+xor_cancel true b = not_not b
+xor_cancel false b = refl
 
 -- a middle term that stands twice cancels
 pub xor_through : (a b c : Bool) → xor (xor a b) (xor b c) ≡ xor a c
@@ -150,6 +186,28 @@ xor_swap false true false d = refl
 xor_swap false false true d = refl
 xor_swap false false false d = refl
 
+pub xor_not_left : (a b : Bool) → xor (not a) b ≡ not (xor a b)
+xor_not_left true b = sym (not_not b)
+xor_not_left false b = refl
+
+pub xor_not_right : (a b : Bool) → xor a (not b) ≡ not (xor a b)
+xor_not_right true b = refl
+xor_not_right false b = refl
+
+pub xor_not_not : (a b : Bool) → xor (not a) (not b) ≡ xor a b
+xor_not_not true b = refl
+xor_not_not false b = not_not b
+
+pub and_xor : (a b c : Bool) → (a && xor b c) ≡ xor (a && b) (a && c)
+and_xor true b c = refl
+and_xor false b c = refl
+
+-- tests that are never both true add up
+pub or_is_xor : (a b : Bool) → (a && b) ≡ false → or a b ≡ xor a b
+or_is_xor true true h = absurd (true≢false h)
+or_is_xor true false h = refl
+or_is_xor false b h = refl
+
 pub same_from_xor : (a b : Bool) → xor a b ≡ false → a ≡ b
 same_from_xor true true h = refl
 same_from_xor true false h = absurd (true≢false h)
@@ -164,6 +222,11 @@ differ_from_xor true true h = absurd (false≢true h)
 differ_from_xor true false h = refl
 differ_from_xor false true h = refl
 differ_from_xor false false h = absurd (false≢true h)
+
+pub xor_from_differ : (a b : Bool) → a ≡ not b → xor a b ≡ true
+xor_from_differ true b h = sym h
+xor_from_differ false true h = refl
+xor_from_differ false false h = h
 
 -- PICK
 pub pick_true : {A : Type 0} (t : Bool) (a b : A) → t ≡ true → pick t a b ≡ a

@@ -26,7 +26,14 @@ leans_times Left w l r pos h = mul-lt-mul_of_pos_left h pos
 leans_times Right w l r pos h = mul-lt-mul_of_pos_left h pos
 leans_times Straight w l r pos h = ap (λ n. w * n) h
 
--- THE TWO AREAS beside the way from a over b to c, (bx - ax) * (cy - ay) and (by - ay) * (cx - ax): for corners grown w times, with differences of the corners as they were
+-- THE TWO AREAS beside the way from a over b to c: (bx - ax) * (cy - ay) and (by - ay) * (cx - ax)
+module _ (l r : ℤ) (a b c : Corner)
+    (left : above l + (a.x * c.y + b.x * a.y) ≡ below l + (a.x * a.y + b.x * c.y))
+    (right : above r + (a.y * c.x + b.y * a.x) ≡ below r + (a.y * a.x + b.y * c.x)) (t : Turn) (h : Leans (above l + below r) (above r + below l) t) where
+  pub areas_turn : TurnsSo a b c t
+  areas_turn = leans_turn t a b c (above l + below r) (above r + below l) (omega (arith, left, right)) h
+
+-- the same for corners grown w times, with differences of the corners as they were
 module _ (l r : ℤ) (w : ℕ) (pos : 1 ≤ w) (a b c : Corner)
     (left : above l + (a.x * c.y + b.x * (w * a.y)) ≡ below l + (a.x * (w * a.y) + b.x * c.y))
     (right : above r + (a.y * c.x + b.y * (w * a.x)) ≡ below r + (a.y * (w * a.x) + b.y * c.x)) (t : Turn) (h : Leans (above l + below r) (above r + below l) t) where

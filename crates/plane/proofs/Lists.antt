@@ -2,7 +2,7 @@
 use Rattle.std.proofs.Common.{◌≡◌, ℕ, suc, ◌≤◌, Bool, true, false, not, ◌&&◌, ◌⊎◌, List, [], ◌∷◌, ◌++◌, length, sym, refl, ap, ◌∙◌, subst, inl, inr, ⊎_elim, le_trans, le_of_lt}
 use Rattle.std.proofs.lemmas.Bool.{and_parts, and_from, cases_Bool, cases_lt, false≢true}
 use Rattle.plane.specs.Lists.{or, every, any, those, each}
-use Rattle.plane.proofs.Booleans.{or_assoc, or_left, or_right, or_from, or_cases, and_assoc, and_swap, not_and, not_both, contrapose, pick_under}
+use Rattle.plane.proofs.Booleans.{or_assoc, or_swap, or_left, or_right, or_from, or_cases, and_assoc, and_swap, not_and, not_or, not_both, contrapose, pick_under}
 
 -- x is an element of the list
 abbrev pub In : {A : Type 0} → A → List A → Type 0
@@ -54,6 +54,12 @@ unfolding every any
 not_every f [] = refl
 not_every f (x ∷ xs) = not_and (f x) (every f xs) ∙ ap (or (not (f x))) (not_every f xs)
 
+-- no element passes if every one fails
+pub not_any : {A : Type 0} (f : A → Bool) (xs : List A) → not (any f xs) ≡ every (λ x. not (f x)) xs
+unfolding every any
+not_any f [] = refl
+not_any f (x ∷ xs) = not_or (f x) (any f xs) ∙ ap (◌&&◌ (not (f x))) (not_any f xs)
+
 -- ANOTHER TEST: the same on each element of the list
 pub any_in : {A : Type 0} (f g : A → Bool) (xs : List A) → ((x : A) → In x xs → f x ≡ g x) → any f xs ≡ any g xs
 unfolding any
@@ -65,12 +71,27 @@ unfolding every
 every_in f g [] h = refl
 every_in f g (x ∷ xs) h = let e = h x (inl refl) in let r = every_in f g xs (λ y m. h y (inr m)) in cc
 
+pub those_in : {A : Type 0} (f g : A → Bool) (xs : List A) → ((x : A) → In x xs → f x ≡ g x) → those f xs ≡ those g xs
+unfolding those
+those_in f g [] h = refl
+those_in f g (x ∷ xs) h = let e = h x (inl refl) in let r = those_in f g xs (λ y m. h y (inr m)) in cc
+
 -- the same everywhere
 pub any_same : {A : Type 0} (f g : A → Bool) (xs : List A) → ((x : A) → f x ≡ g x) → any f xs ≡ any g xs
 any_same f g xs h = any_in f g xs (λ x _. h x)
 
 pub every_same : {A : Type 0} (f g : A → Bool) (xs : List A) → ((x : A) → f x ≡ g x) → every f xs ≡ every g xs
 every_same f g xs h = every_in f g xs (λ x _. h x)
+
+pub those_same : {A : Type 0} (f g : A → Bool) (xs : List A) → ((x : A) → f x ≡ g x) → those f xs ≡ those g xs
+those_same f g xs h = those_in f g xs (λ x _. h x)
+
+-- the same where a third test fails, and that fails on the whole list
+pub any_where : {A : Type 0} (t f g : A → Bool) (xs : List A) → ((x : A) → t x ≡ false → f x ≡ g x) → any t xs ≡ false → any f xs ≡ any g xs
+any_where t f g xs h k = any_in f g xs (λ x m. h x (any_false_at t x xs m k))
+
+pub those_where : {A : Type 0} (t f g : A → Bool) (xs : List A) → ((x : A) → t x ≡ false → f x ≡ g x) → any t xs ≡ false → those f xs ≡ those g xs
+those_where t f g xs h k = those_in f g xs (λ x m. h x (any_false_at t x xs m k))
 
 -- a weaker test passes where a stronger one does
 pub any_weaker : {A : Type 0} (f g : A → Bool) (xs : List A) → ((x : A) → f x ≡ true → g x ≡ true) → any f xs ≡ true → any g xs ≡ true
@@ -82,6 +103,12 @@ any_stronger f g xs h k = contrapose (any f xs) (any g xs) (any_weaker f g xs h)
 pub every_weaker : {A : Type 0} (f g : A → Bool) (xs : List A) → ((x : A) → f x ≡ true → g x ≡ true) → every f xs ≡ true → every g xs ≡ true
 every_weaker f g xs h k = every_from g xs (λ x m. h x (every_at f x xs m k))
 
+-- TWO TESTS
+pub any_or : {A : Type 0} (f g : A → Bool) (xs : List A) → any (λ x. or (f x) (g x)) xs ≡ or (any f xs) (any g xs)
+unfolding any
+any_or f g [] = refl
+any_or f g (x ∷ xs) = ap (or (or (f x) (g x))) (any_or f g xs) ∙ or_swap (f x) (g x) (any f xs) (any g xs)
+
 pub every_and : {A : Type 0} (f g : A → Bool) (xs : List A) → every (λ x. f x && g x) xs ≡ (every f xs && every g xs)
 unfolding every
 every_and f g [] = refl
@@ -89,6 +116,9 @@ every_and f g (x ∷ xs) = ap (◌&&◌ (f x && g x)) (every_and f g xs) ∙ and
 
 pub any_never : {A : Type 0} (xs : List A) → any (λ x. false) xs ≡ false
 any_never xs = any_false_from (λ x. false) xs (λ _ _. refl)
+
+pub every_always : {A : Type 0} (xs : List A) → every (λ x. true) xs ≡ true
+every_always xs = every_from (λ x. true) xs (λ _ _. refl)
 
 -- ONE LIST BEHIND ANOTHER
 pub any_append : {A : Type 0} (f : A → Bool) (xs ys : List A) → any f (xs ++ ys) ≡ or (any f xs) (any f ys)

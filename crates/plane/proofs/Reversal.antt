@@ -1,5 +1,5 @@
 -- An edge gone the other way has the same points, is crossed at the same points, and meets the same edges; and meeting is mutual.
-use Rattle.std.proofs.Common.{◌≡◌, ℕ, Bool, ◌&&◌, ltb, leb, ap, ◌∙◌, ap₂, arith}
+use Rattle.std.proofs.Common.{◌≡◌, ℕ, Bool, ◌&&◌, ltb, leb, refl, ap, ◌∙◌, ap₂, arith}
 use Rattle.std.proofs.lemmas.Bool.Decides.{nat_tests}
 use Rattle.plane.specs.Lists.{or}
 use Rattle.plane.specs.Corners.{Corner, left_turn, right_turn, between}
@@ -74,9 +74,16 @@ pub touches_reversed : (p q : Corner) (e : Edge) → touches p q (reversed e) �
 touches_reversed p q e =
     ap₂ or (ap₂ or (on_edge_reversed e p) (on_edge_reversed e q)) (or_comm (on_edge (edge p q) e.other) (on_edge (edge p q) e.one))
 
+-- two edges meet if they cross over or touch
+pub meet_touches : (e f : Edge) → meet e f ≡ or (cross_over e f) (touches f.one f.other e)
+meet_touches e f = refl
+
 pub meet_comm : (e f : Edge) → meet e f ≡ meet f e
 meet_comm e f =
     ap₂ or (cross_over_comm e f) (or_comm (or (on_edge e f.one) (on_edge e f.other)) (or (on_edge f e.one) (on_edge f e.other)))
+
+pub meet_reversed : (e f : Edge) → meet (reversed e) f ≡ meet e f
+meet_reversed e f = ap₂ or (cross_over_reversed e f) (touches_reversed f.one f.other e)
 
 pub meets_both_ways : MeetsBothWays
 unfolding MeetsBothWays

@@ -21,6 +21,18 @@ unfolding added_up
 added_up_in f g [] h = refl
 added_up_in f g (x ∷ xs) h = ap₂ ◌+◌ (h x (inl refl)) (added_up_in f g xs (λ y m. h y (inr m)))
 
+-- two numbers for each element add up by themselves
+pub added_up_add : {A : Type 0} (f g : A → ℕ) (xs : List A) → added_up (λ x. f x + g x) xs ≡ added_up f xs + added_up g xs
+unfolding added_up
+added_up_add f g [] = refl
+added_up_add f g (x ∷ xs) = let r = added_up_add f g xs in omega arith
+
+-- a common factor
+pub added_up_times : {A : Type 0} (n : ℕ) (f : A → ℕ) (xs : List A) → added_up (λ x. n * f x) xs ≡ n * added_up f xs
+unfolding added_up
+added_up_times n f [] = omega arith
+added_up_times n f (x ∷ xs) = let r = added_up_times n f xs in omega arith
+
 -- nothing for each element is nothing in all
 pub added_up_zero : {A : Type 0} (xs : List A) → added_up (λ (x : A). 0) xs ≡ 0
 unfolding added_up

@@ -1,5 +1,5 @@
 -- How three corners turn, in another order or mirrored; and the identities between the four determinants of four corners.
-use Rattle.std.proofs.Common.{◌≡◌, ℕ, ◌+◌, ◌*◌, eqb, ltb, ◌∙◌, ap₂, arith}
+use Rattle.std.proofs.Common.{◌≡◌, ℕ, ◌+◌, ◌*◌, eqb, ltb, refl, ◌∙◌, ap₂, arith}
 use Rattle.plane.specs.Corners.{Corner, corner, lefts, rights, left_turn, right_turn, in_line}
 use Rattle.plane.specs.Symmetry.{TurnCycles, TurnReverses}
 use Rattle.plane.proofs.Products.{eqb_comm}
@@ -56,6 +56,12 @@ module _ (a b c : Corner) where
 -- mirrored, east for north, they turn the other way
 abbrev pub mirrored : Corner → Corner
 mirrored c = corner c.y c.x
+
+pub left_turn_mirrored : (a b c : Corner) → left_turn (mirrored a) (mirrored b) (mirrored c) ≡ right_turn a b c
+left_turn_mirrored a b c = refl
+
+pub right_turn_mirrored : (a b c : Corner) → right_turn (mirrored a) (mirrored b) (mirrored c) ≡ left_turn a b c
+right_turn_mirrored a b c = refl
 
 pub in_line_mirrored : (a b c : Corner) → in_line (mirrored a) (mirrored b) (mirrored c) ≡ in_line a b c
 in_line_mirrored a b c = eqb_comm (rights a b c) (lefts a b c)

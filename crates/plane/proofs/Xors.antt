@@ -3,7 +3,7 @@ use Rattle.std.proofs.Common.{◌≡◌, ℕ, suc, ◌%◌, Bool, true, false, n
 use Rattle.std.proofs.lemmas.Bool.Decides.{nat_tests}
 use Rattle.plane.specs.Lists.{pick, any, those, each}
 use Rattle.plane.specs.Parity.{xor, xors}
-use Rattle.plane.proofs.Booleans.{xor_assoc, xor_swap, xor_comm}
+use Rattle.plane.proofs.Booleans.{xor_assoc, xor_swap, xor_comm, true_from, not_both}
 use Rattle.plane.proofs.Lists.{In, any_false_at}
 
 -- one more turns even into odd, and odd into even
@@ -42,6 +42,10 @@ xors_never (x ∷ xs) = xors_never xs
 
 pub xors_none : {A : Type 0} (f : A → Bool) (xs : List A) → any f xs ≡ false → xors f xs ≡ false
 xors_none f xs h = xors_in f (λ x. false) xs (λ x m. any_false_at f x xs m h) ∙ xors_never xs
+
+-- what has an odd sum holds somewhere
+pub any_from_xors : {A : Type 0} (f : A → Bool) (xs : List A) → xors f xs ≡ true → any f xs ≡ true
+any_from_xors f xs h = true_from (any f xs) (λ k. not_both (xors f xs) h (xors_none f xs k))
 
 -- TWO TESTS: the sum of both is the sum of their sums
 pub xors_xor : {A : Type 0} (f g : A → Bool) (xs : List A) → xors (λ x. xor (f x) (g x)) xs ≡ xor (xors f xs) (xors g xs)

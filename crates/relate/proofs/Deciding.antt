@@ -1,14 +1,16 @@
 -- The answer: contacts and sides tell the way, and boxes apart tell that two are apart.
-use Rattle.std.proofs.Common.{◌≡◌, ℕ, Bool, true, false, [], ◌∷◌, sym, refl, ap, ◌∙◌, subst}
+use Rattle.std.proofs.Common.{◌≡◌, ℕ, ◌<◌, Bool, true, false, ltb, [], ◌∷◌, sym, refl, ap, ◌∙◌, subst, arith}
+use Rattle.std.proofs.lemmas.Bool.Decides.{nat_tests}
 use Rattle.std.proofs.lemmas.Bool.{false≢true, true≢false, and_right}
 use Rattle.plane.specs.Lists.{or, pick, any}
 use Rattle.plane.specs.Parity.{xors}
 use Rattle.plane.proofs.Booleans.{or_from}
 use Rattle.plane.proofs.Lists.{any_false_from, any_never}
 use Rattle.ground.specs.Shapes.{Shape, edges, a_shape}
-use Rattle.ground.specs.Boxes.{boxes_apart}
+use Rattle.ground.specs.Boxes.{box_of, boxes_apart}
 use Rattle.ground.specs.Statements.{crossing}
 use Rattle.ground.specs.Ways.{Lies}
+use Rattle.ground.specs.declared.bounding.Extent.{Extent}
 use Rattle.relate.specs.Samples.{meeting, starts}
 use Rattle.relate.specs.Statements.{WayFoundTells}
 use Rattle.relate.specs.Finding.{found_at, found_along, found, way_found}
@@ -84,6 +86,19 @@ pub apart_way : (s t : Shape) → boxes_apart (bounds_of s) (bounds_of t) ≡ tr
 apart_way [] t apart = sym (none_first t)
 apart_way (c ∷ cs) [] apart = sym (none_second (c ∷ cs))
 apart_way (c ∷ cs) (d ∷ ds) apart = sym (apart_boxes (c ∷ cs) (d ∷ ds) apart)
+
+-- boxes in range that are not apart are those of rows with corners
+pub boxes_whole : (s t : Shape) (a b : Extent) → a ≡ bounds_of s → b ≡ bounds_of t → a.east < 1048576 → b.east < 1048576 → boxes_apart a b ≡ false →
+    (a ≡ box_of s) × (b ≡ box_of t)
+boxes_whole (c ∷ cs) (d ∷ ds) a b h k far too_far met = (h, k)
+boxes_whole [] t a b h k far too_far met = absurd (beyond a.west b.east (ap (λ v. v.west) h) too_far _ _ met)
+  where
+    beyond : (w e : ℕ) → w ≡ 1048576 → e < 1048576 → (x y : Bool) → or (or x (ltb e w)) y ≡ false → ⊥
+    beyond w e is below x y m = grind (arith, nat_tests)
+boxes_whole (c ∷ cs) [] a b h k far too_far met = absurd (beyond b.west a.east (ap (λ v. v.west) k) far _ _ met)
+  where
+    beyond : (w e : ℕ) → w ≡ 1048576 → e < 1048576 → (x y : Bool) → or (or (ltb e w) x) y ≡ false → ⊥
+    beyond w e is below x y m = grind (arith, nat_tests)
 
 -- OF TWO GROUNDS it is the way by all points
 pub way_lies : (s t : Shape) (n : ℕ) → n ≡ way_found s t → a_shape s ≡ true → a_shape t ≡ true → Lies s t n

@@ -1,5 +1,5 @@
 -- What lies outside the box of a row of corners: there the parity is even, and an edge there meets no edge of the row.
-use Rattle.std.proofs.Common.{◌≡◌, ℕ, ◌+◌, ◌*◌, ◌≤◌, Bool, true, false, not, ◌&&◌, ltb, leb, ◌⊎◌, ◌∷◌, ap, ◌∙◌, ⊎_elim, arith}
+use Rattle.std.proofs.Common.{◌≡◌, ℕ, ◌+◌, ◌*◌, ◌≤◌, Bool, true, false, not, ◌&&◌, eqb, ltb, leb, ◌⊎◌, ◌∷◌, ap, ◌∙◌, ap₂, ⊎_elim, arith}
 use Rattle.std.proofs.lemmas.Bool.{and_parts, and_from, and_left, and_right, leb-true, le-leb}
 use Rattle.std.proofs.lemmas.Bool.Decides.{nat_tests}
 use Rattle.plane.specs.Lists.{or, any}
@@ -8,9 +8,10 @@ use Rattle.plane.specs.Edges.{Edge, on_edge, cross_over, meet}
 use Rattle.plane.specs.Extents.{ranges_meet}
 use Rattle.plane.specs.Orientation.{upward}
 use Rattle.plane.specs.Parity.{xor}
-use Rattle.plane.proofs.Booleans.{false_from, not_both, or_left, or_right, or_cases, or_from, pick_false}
+use Rattle.plane.proofs.Booleans.{false_from, not_both, and_true_right, or_left, or_right, or_cases, or_from, or_false_right, pick_false}
 use Rattle.plane.proofs.Lists.{In, every_at, any_false_from, any_stronger}
 use Rattle.plane.proofs.Sides.{on_edge_parts}
+use Rattle.plane.proofs.Crossings.{one_on}
 use Rattle.plane.proofs.Extents.{apart_unmet}
 use Rattle.ground.specs.Shapes.{Point, Shape, edges, on_border}
 use Rattle.ground.specs.Rows.{least, greatest}
@@ -46,7 +47,11 @@ abbrev beyond : (a b lo hi : ℕ) → Bool
 beyond a b lo hi = or (ltb (larger a b) lo) (ltb hi (smaller a b))
 
 module _ (a b lo hi : ℕ) (far : beyond a b lo hi ≡ true) where
-  -- their range meets none from lo to hi
+  -- none of them is from lo to hi
+  beyond_off : (u : ℕ) → (lo ≤ u) × (u ≤ hi) → between a b u ≡ false
+  beyond_off u h = grind (arith, nat_tests)
+
+  -- nor does their range meet one from lo to hi
   beyond_apart : (c d : ℕ) → (lo ≤ c) × (c ≤ hi) → (lo ≤ d) × (d ≤ hi) → ranges_meet a b c d ≡ false
   beyond_apart c d h k = grind (arith, nat_tests)
 
@@ -63,7 +68,11 @@ abbrev past : (Corner → ℕ) → Shape → Edge → Bool
 past f t e = beyond (f e.one) (f e.other) (least f t) (greatest f t)
 
 module _ (f : Corner → ℕ) (t : Shape) (e : Edge) (far : past f t e ≡ true) where
-  -- so no edge's range meets its own
+  -- so no corner of the row is between its ends
+  past_corner : (u : Corner) → In u t → between (f e.one) (f e.other) (f u) ≡ false
+  past_corner u i = beyond_off (f e.one) (f e.other) (least f t) (greatest f t) far (f u) (corner_held f t u i)
+
+  -- and no edge's range meets its own
   past_edge : (g : Edge) → In g (edges t) → ranges_meet (f e.one) (f e.other) (f g.one) (f g.other) ≡ false
   past_edge g i =
       let ends = edge_ends t g i in
@@ -75,6 +84,17 @@ module _ (t : Shape) (e : Edge) (outside : misses (box_of t) e ≡ true) where
   -- it is so eastward or northward
   side : (past (λ c. c.x) t e ≡ true) ⊎ (past (λ c. c.y) t e ≡ true)
   side = or_cases _ _ outside
+
+  -- no corner of the row is on it
+  pub missed_corner : (u : Corner) → In u t → on_edge e u ≡ false
+  missed_corner u i =
+      false_from (on_edge e u)
+      (λ on.
+      ⊎_elim (λ k. not_both _ (on_edge_parts e u on).1 (past_corner (λ c. c.x) t e k u i))
+      (λ k. not_both _ (on_edge_parts e u on).2 (past_corner (λ c. c.y) t e k u i)) side)
+
+  pub missed_corners : any (on_edge e) t ≡ false
+  missed_corners = any_false_from (on_edge e) t missed_corner
 
   -- it meets no edge of the row
   pub missed_meet : any (meet e) (edges t) ≡ false
@@ -102,6 +122,19 @@ module _ (t : Shape) (e : Edge) (outside : misses (box_of t) e ≡ true) where
           let z = and_parts (starts e u) _ h in
           let on = (and_parts (on_edge e u) _ z.0).0 in
           not_both (not (not (raw t (sample e u)))) (and_parts (not (xor i (not (upward e)))) _ z.1).1 (ap (λ odd. not (not odd)) (missed_raw u on))
+
+  -- and what is outside is found after its beginning only: where the edge is not level, and has the parity i at its side
+  pub missed_outside : (i : Bool) → any (found_at t i false e) (e.one ∷ t) ≡ (not (eqb e.one.y e.other.y) && not (xor i (not (upward e))))
+  unfolding any
+  missed_outside i = ap₂ or first none ∙ or_false_right _
+    where
+      none : any (found_at t i false e) t ≡ false
+      none = any_false_from (found_at t i false e) t (λ u m. and_left _ _ (and_left _ _ (missed_corner u m)))
+
+      first : found_at t i false e e.one ≡ (not (eqb e.one.y e.other.y) && not (xor i (not (upward e))))
+      first =
+          ap₂ (λ on odd. (on && not (eqb e.one.y e.other.y)) && (not (xor i (not (upward e))) && not odd)) (one_on e) (missed_raw e.one (one_on e))
+          ∙ ap (λ z. not (eqb e.one.y e.other.y) && z) (and_true_right (not (xor i (not (upward e)))))
 
 -- BOXES APART
 -- each edge of the one row misses the box of the other
