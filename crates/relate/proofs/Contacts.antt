@@ -66,7 +66,7 @@ max_joined Clear Meeting = refl
 max_joined Clear Clear = refl
 
 -- a crossing settles it
-crossing_settles : (k m : Contact) → k ≡ Crossing → k ≡ joined k m
+pub crossing_settles : (k m : Contact) → k ≡ Crossing → k ≡ joined k m
 crossing_settles k m h = h ∙ sym (ap (λ j. joined j m) h)
 
 -- the contact with edges of which f says that they are crossed over, and g that they are met
@@ -80,6 +80,14 @@ module _ (f g : Edge → Bool) where
 
   pub contact_begins : (s : Shape) → joined Clear (contact_of f g (edges_round s)) ≡ contact_of f g (edges s)
   contact_begins = round joined joined_assoc (λ e. contact (f e) (g e)) (contact_of f g) more joined_comm
+
+  -- gone round from behind the closing edge on, and that one last
+  pub contact_closed : (e : Edge) (es : List Edge) (s : Shape) → edges_round s ≡ e ∷ es → joined (contact_of f g es) (contact (f e) (g e)) ≡ contact_of f g (edges s)
+  contact_closed e es s h = joined_comm (contact_of f g es) (contact (f e) (g e)) ∙ sym (more e es) ∙ ap (contact_of f g) (sym h) ∙ contact_begins s
+
+  pub contact_empty : (s : Shape) → edges_round s ≡ [] → Clear ≡ contact_of f g (edges s)
+  unfolding any
+  contact_empty s h = ap (contact_of f g) (sym h) ∙ contact_begins s
 
   pub contact_goes_on : (k j : Contact) (e : Edge) (es : List Edge) → j ≡ joined k (contact (f e) (g e)) →
       joined j (contact_of f g es) ≡ joined k (contact_of f g (e ∷ es))

@@ -23,18 +23,22 @@ pub(crate) enum Contact {
 }
 
 impl Contact {
-    // Of the edges of two rings.
+    // Of the edges of two rings. The one that closes the first ring is looked at last: a crossing that an edge before it has is found without a walk for it.
     pub(crate) fn of_rings(first: &Ring<'_>, second: &Ring<'_>) -> Contact
         ensures { result ≡ contact (crossing (shape_in first.now) (shape_in second.now)) (meeting (shape_in first.now) (shape_in second.now)) }
     {
+        let mut edges = first.edges();
+        let Some(closing) = edges.next() else {
+            return Contact::Clear;
+        };
         let mut contact = Contact::Clear;
-        for near in first.edges() {
+        for near in edges {
             contact = contact.max(Contact::near(near.edge, second));
             if contact == Contact::Crossing {
                 return contact;
             }
         }
-        contact
+        contact.max(Contact::near(closing.edge, second))
     }
 
     // Of an edge and a ring's edges; an edge outside the ring's box meets none.
