@@ -5,7 +5,7 @@ ghost use Rattle.figures.specs.Drawing.{following, drawn, among};
 use std::marker::Model;
 
 // A linear congruential generator; a contract sees its state.
-#[derive(Drop)]
+#[derive(Clone, Copy)]
 pub struct Random {
     state: u64,
 }
@@ -16,6 +16,8 @@ impl Model for Random {
     ghost Value = { ℕ };
 
     ghost view = { λ r. r.state };
+
+    ghost inverse = { λ n. record { state = n } };
 }
 
 impl Random {
