@@ -61,9 +61,15 @@ fn add_contacts(
 }
 
 // Some corner of the ones lies on one of the others.
-fn corner_on(ones: &[Segment], others: &[Segment]) -> bool {
-    ones.iter()
-        .any(|one| others.iter().any(|other| other.has(one.from)))
+fn corner_on(ones: &[Segment], others: &[Segment]) -> Result<bool, Fault> {
+    for one in ones.iter() {
+        for other in others.iter() {
+            if other.has(one.from)? {
+                return Ok(true);
+            }
+        }
+    }
+    Ok(false)
 }
 
 // The nearest meridian to the east.
@@ -162,8 +168,8 @@ pub(crate) fn look(heap: Global, first: &Ring, second: &Ring) -> Result<Seen, Fa
         second: Segment::all(heap, second)?,
     };
     let mut seen = Seen {
-        on_both: corner_on(&borders.first, &borders.second)
-            || corner_on(&borders.second, &borders.first),
+        on_both: corner_on(&borders.first, &borders.second)?
+            || corner_on(&borders.second, &borders.first)?,
         ..Seen::default()
     };
     borders.look_along(heap, &mut seen)?;

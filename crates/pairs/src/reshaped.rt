@@ -34,9 +34,15 @@ impl Ring {
         Ok(Ring { corners })
     }
 
-    // The spot lies on an edge. By places, which need no row of edges to be made.
+    // The spot lies on an edge: it is in line with the ends, and sees them in opposite directions. By places, which need no row of edges to be made; with code of its own,
+    // since the slow way of looking may share nothing with how its pairs are made.
     fn borders_on(&self, spot: Spot) -> bool {
-        (0..self.corners.len()).any(|place| self.edge(place).has(spot))
+        (0..self.corners.len()).any(|place| {
+            let edge = self.edge(place);
+            let from = spot.way_to(edge.from);
+            let to = spot.way_to(edge.to);
+            from.spanned(to) == 0 && from.along(to) <= 0
+        })
     }
 
     // With a corner wherever one of the parts of an edge ends on the border of the other.

@@ -11,6 +11,21 @@ pub struct Segment {
     pub to: Spot,
 }
 
+// Twice the area that two ways span, above 0 if the other is to the left. Checked, as all numbers of the slow way of looking: those of `Spot`, which the pairs are made
+// with, would wrap.
+fn spanned(way: Spot, other: Spot) -> Result<i128, Fault> {
+    let left = product(i128::from(way.x), i128::from(other.y))?;
+    let right = product(i128::from(way.y), i128::from(other.x))?;
+    difference(left, right)
+}
+
+// How far the other goes the same way, below 0 if it goes back.
+fn along(way: Spot, other: Spot) -> Result<i128, Fault> {
+    let east = product(i128::from(way.x), i128::from(other.x))?;
+    let north = product(i128::from(way.y), i128::from(other.y))?;
+    sum(east, north)
+}
+
 // Where two segments that are not in line come to each other, and whether that is amid both of them.
 #[derive(Clone, Copy)]
 pub struct Contact {
@@ -54,24 +69,21 @@ impl Segment {
     }
 
     // The spot is in line with the ends, and sees them in opposite directions.
-    pub(crate) fn has(self, spot: Spot) -> bool {
+    pub(crate) fn has(self, spot: Spot) -> Result<bool, Fault> {
         let from = spot.way_to(self.from);
         let to = spot.way_to(self.to);
-        from.spanned(to) == 0 && from.along(to) <= 0
+        Ok(spanned(from, to)? == 0 && along(from, to)? <= 0)
     }
 
     // The only place that two segments, not in line, have in common.
     pub(crate) fn contact(self, other: Segment) -> Result<Option<Contact>, Fault> {
-        let bottom = self.way().spanned(other.way());
+        let bottom = spanned(self.way(), other.way())?;
         if bottom == 0 {
             return Ok(None);
         }
         let between = self.from.way_to(other.from);
-        let share = Fraction::of(i128::from(between.spanned(other.way())), i128::from(bottom))?;
-        let other_share = Fraction::of(
-            i128::from(between.spanned(self.way())),
-            i128::from(bottom),
-        )?;
+        let share = Fraction::of(spanned(between, other.way())?, bottom)?;
+        let other_share = Fraction::of(spanned(between, self.way())?, bottom)?;
         if !is_share(share) || !is_share(other_share) {
             return Ok(None);
         }
