@@ -6,5 +6,5 @@ mod refusal;
 mod way;
 
 pub use point::{DENOMINATOR_LIMIT, NUMERATOR_LIMIT, Point};
-pub use refusal::Refusal;
+pub use refusal::{NoRefusal, Refusal};
 pub use way::{NoWay, Way};
