@@ -1,5 +1,5 @@
 -- A request as an event, and what came of it. Assumes nothing: these are definitions.
-use Rattle.std.specs.Prelude.{◌≡◌, ℕ, ◌%◌, ◌<◌, ◌&&◌, List, [], ◌∷◌, ◌++◌, length, Ok, Err, Result, ◌==◌, nat_le}
+use Rattle.std.specs.Prelude.{◌≡◌, ℕ, ◌%◌, ◌<◌, ◌&&◌, List, [], ◌∷◌, ◌++◌, length, Ok, Err, Result, ◌==◌, nat_le, codes, decimal}
 use Rattle.plane.specs.Lists.{pick}
 use Rattle.ground.specs.Shapes.{Shape}
 use Rattle.ground.specs.Rows.{shape_of}
@@ -60,6 +60,11 @@ EndSaid (Err OutOfMemory) e s t = Unit {0}
 unfoldable pub RanThrough : List ℕ → Event → (memory shown shown₁ : List ℕ) → Result (Unit {0}) AskError → Type 0
 RanThrough m ev m₁ shown shown₁ r =
     (s : List ℕ) × (e : End) × (t : List ℕ) × Went m ev m₁ s e × (shown₁ ≡ shown ++ t) × EndSaid r e s t
+
+-- why a request is not answered, in words
+abbrev pub error_words : AskError → List ℕ
+error_words (Refused why) = codes "refused " ++ decimal (refusal_number why)
+error_words OutOfMemory = codes "memory allocation failed"
 
 -- So a row of more than 256 corners is answered as the rule says: it's refused with the same number as no corners are.
 unfoldable pub LongRows : Type 0

@@ -56,10 +56,16 @@ impl<T: Drop> From<AllocFailed<T>> for AskError {
 }
 
 impl fmt::Display for AskError {
+    ghost use Rattle.std.specs.Prelude.{Some};
+    ghost use Rattle.map.specs.Asking.{error_words};
+
+    ghost output = { λ error. Some (error_words error) };
+
     fn fmt<W: fmt::Write>(&self, f: &mut fmt::Formatter<W>) -> fmt::Result {
         match self {
             AskError::Refused(why) => write!(f, "refused {}", u64::from(*why)),
-            AskError::OutOfMemory => write!(f, "{}", AllocError),
+            // The words of `AllocError`, written out, since its `Display` has no contract.
+            AskError::OutOfMemory => f.write_str("memory allocation failed"),
         }
     }
 }
