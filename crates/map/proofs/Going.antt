@@ -6,12 +6,13 @@ use Rattle.terms.specs.declared.refusal.Refusal.{Refusal}
 use Rattle.terms.specs.declared.refusal.Refusal.TheVariants.{OutOfRange, NotKnown, NotThere, Taken, NoGround, NoRoom}
 use Rattle.plane.specs.Lists.{pick}
 use Rattle.plane.proofs.Booleans.{pick_both}
-use Rattle.ground.specs.Shapes.{Point}
-use Rattle.map.specs.Promise.{Event, next, Act, shows, done, refused, Step, ran, runs, one_act}
-use Rattle.map.specs.Sizes.{memory_length, at_cursor, at_left, at_a, at_b, at_w}
-use Rattle.map.specs.Memory.{Listed, listed, scan, whole_at, has_at, behind, opened, closed}
-use Rattle.map.specs.Machine.{own, acts, tell_step, next_step, stepped, point, small_point}
-use Rattle.map.specs.Code.{Takes}
+use Rattle.ground.specs.Shapes.{Point, Shape, a_shape}
+use Rattle.map.specs.House.{put, drop_it, at_point, how_lies, all_that, area_of}
+use Rattle.map.specs.Promise.{Event, said, next, Act, shows, done, refused, Step, ran, runs, one_act}
+use Rattle.map.specs.Sizes.{memory_length, head_length, at_grounds, at_cursor, at_left, at_a, at_b, at_w}
+use Rattle.map.specs.Memory.{number_at, Listed, listed, scan, whole_at, has_at, behind, opened, closed, Sought, seek, has_room, within_count}
+use Rattle.map.specs.Machine.{own, acts, put_step, drop_step, tell_step, next_step, stepped, point, small_point}
+use Rattle.map.specs.Code.{act_of, Takes}
 use Rattle.map.specs.Asking.{flattened, End, Went}
 use Rattle.map.specs.declared.act.Act as code
 use Rattle.map.specs.declared.act.Act.TheVariants.{Shows, Done, Refused}
@@ -20,6 +21,70 @@ use Rattle.map.specs.declared.act.Act.TheVariants.{Shows, Done, Refused}
 pub own_acts : (m : List ℕ) (ev : Event) → length m ≡ memory_length → acts m ev ≡ own.step m ev
 unfolding own
 own_acts m ev long = let e = eq-eqb (length m) memory_length long in rw e refl
+
+-- WHAT THE MACHINE DOES IS WELL FORMED, whatever stands in its memory: it shows one number, or is done, or refuses for a reason that has a name
+unfoldable Fine : Step → Type 0
+Fine s = (a : code.Act) × (act_of a ≡ s.act)
+
+well_told : (m : List ℕ) (a : code.Act) → Fine (stepped m (act_of a))
+unfolding Fine
+well_told m a = (a, refl)
+
+put_fine : (m : List ℕ) (i : ℕ) (s : Shape) (g : Sought) → Fine (put_step m i s g)
+unfolding put_step
+put_fine m i s g =
+    pick_both Fine g.found _ _ (λ e. well_told m (Refused Taken))
+    (λ _. pick_both Fine (a_shape s) _ _ (λ e. pick_both Fine (has_room m g.place s) _ _ (λ f. well_told _ Done) (λ _. well_told m (Refused NoRoom))) (λ _. well_told m (Refused NoGround)))
+
+tell_fine : (m : List ℕ) (v : Point) (l : Listed) → Fine (tell_step m v l)
+unfolding tell_step
+tell_fine m v l = pick_both Fine l.found _ _ (λ e. well_told _ (Shows (number_at m l.place))) (λ _. well_told _ Done)
+
+next_fine : (m : List ℕ) (v : Point) → Fine (next_step m v)
+unfolding next_step
+next_fine m v =
+    pick_both Fine (eqb (get_or m at_cursor 0) 0) _ _ (λ e. well_told m Done)
+    (λ _. pick_both Fine (small_point v) _ _ (λ e. tell_fine m v (scan m v (get_or m at_left 0) (get_or m at_cursor 0))) (λ _. well_told _ Done))
+
+acts_fine : (m : List ℕ) (ev : Event) → Fine (acts m ev)
+unfolding acts drop_step
+acts_fine m (said (put i s)) =
+    pick_both Fine (ltb i 18446744073709551616) _ _ (λ e. put_fine m i s (seek m (get_or m at_grounds 0) head_length i)) (λ _. well_told m (Refused OutOfRange))
+acts_fine m (said (drop_it i)) =
+    let g : Sought = seek m (get_or m at_grounds 0) head_length i in
+    pick_both Fine (g.found && within_count m g.place) _ _ (λ e. well_told _ Done) (λ _. well_told m (Refused NotThere))
+acts_fine m (said (at_point a b w)) =
+    pick_both Fine (small_point (point a b w)) _ _ (λ e. tell_fine m (point a b w) (scan m (point a b w) (get_or m at_grounds 0) head_length)) (λ _. well_told m (Refused OutOfRange))
+acts_fine m (said (how_lies i j)) = well_told m (Refused NotKnown)
+acts_fine m (said (all_that i)) = well_told m (Refused NotKnown)
+acts_fine m (said (area_of i)) = well_told m (Refused NotKnown)
+acts_fine m next = next_fine m (point (get_or m at_a 0) (get_or m at_b 0) (get_or m at_w 0))
+
+pub own_act : (m : List ℕ) (ev : Event) → (a : code.Act) × (act_of a ≡ (own.step m ev).act)
+unfolding own Fine
+own_act m ev = pick_both Fine (eqb (length m) memory_length) (acts m ev) (stepped m (refused 1)) (λ e. acts_fine m ev) (λ _. well_told m (Refused OutOfRange))
+
+-- so it shows at most two numbers, and refuses with 1 to 999
+abbrev act_fine : Act → Bool
+act_fine (shows s) = leb (length s) 2
+act_fine done = true
+act_fine (refused k) = leb 1 k && ltb k 1000
+
+refusal_ends : (why : Refusal) → leb 1 (refusal_number why) && ltb (refusal_number why) 1000 ≡ true
+refusal_ends OutOfRange = refl
+refusal_ends NotKnown = refl
+refusal_ends NotThere = refl
+refusal_ends Taken = refl
+refusal_ends NoGround = refl
+refusal_ends NoRoom = refl
+
+code_fine : (a : code.Act) → act_fine (act_of a) ≡ true
+code_fine (Shows n) = refl
+code_fine Done = refl
+code_fine (Refused why) = refusal_ends why
+
+own_fine : (m : List ℕ) (ev : Event) → act_fine (own.step m ev).act ≡ true
+own_fine m ev = let a = own_act m ev in subst (λ (b : Act). act_fine b ≡ true) a.1 (code_fine a.0)
 
 -- EACH ROW LEAVES FEWER RECORDS
 fewer : (b c : Bool) (x : Listed) (k p : ℕ) → (x.found ≡ true → x.left < k) →
@@ -83,14 +148,10 @@ pub record Way (m₀ : List ℕ) (ev₀ : Event) (a : code.Act) (m₁ shown : Li
   pub runs_on : (n : ℕ) → runs (steps + suc n) own m₀ ev₀ [] ≡ runs (suc n) own from at rows
   pub last : Takes a m₁ (own.step from at)
 
--- a step that is taken is the machine's own
-taken : (m : List ℕ) (ev : Event) (a : code.Act) (m₁ : List ℕ) → length m ≡ memory_length → Takes a m₁ (acts m ev) → Takes a m₁ (own.step m ev)
-taken m ev a m₁ long t = let e = own_acts m ev long in rw (← e) t
-
-pub way_begins : (m₀ : List ℕ) (ev₀ : Event) (a : code.Act) (m₁ : List ℕ) → length m₀ ≡ memory_length → Takes a m₁ (acts m₀ ev₀) → Way m₀ ev₀ a m₁ []
+pub way_begins : (m₀ : List ℕ) (ev₀ : Event) (a : code.Act) (m₁ : List ℕ) → Takes a m₁ (own.step m₀ ev₀) → Way m₀ ev₀ a m₁ []
 unfolding flattened
-way_begins m₀ ev₀ a m₁ long t =
-    record { steps = 0; rows = []; from = m₀; at = ev₀; flat = refl; runs_on = λ n. ap (λ (k : ℕ). runs k own m₀ ev₀ []) (zero-add (suc n)); last = taken m₀ ev₀ a m₁ long t }
+way_begins m₀ ev₀ a m₁ t =
+    record { steps = 0; rows = []; from = m₀; at = ev₀; flat = refl; runs_on = λ n. ap (λ (k : ℕ). runs k own m₀ ev₀ []) (zero-add (suc n)); last = t }
 
 flattened_more : (rs : List (List ℕ)) (r : List ℕ) → flattened (rs ++ r ∷ []) ≡ flattened rs ++ r
 unfolding flattened
@@ -103,9 +164,9 @@ unfolding runs one_act
 one_more m ev rs k n is = rw is refl
 
 -- a row more, and the step behind it
-pub way_goes_on : (m₀ : List ℕ) (ev₀ : Event) (k : ℕ) (m₁ shown : List ℕ) (a : code.Act) (m₂ : List ℕ) → length m₁ ≡ memory_length → Way m₀ ev₀ (Shows k) m₁ shown →
-    Takes a m₂ (acts m₁ next) → Way m₀ ev₀ a m₂ (shown ++ k ∷ [])
-way_goes_on m₀ ev₀ k m₁ shown a m₂ long way t =
+pub way_goes_on : (m₀ : List ℕ) (ev₀ : Event) (k : ℕ) (m₁ shown : List ℕ) (a : code.Act) (m₂ : List ℕ) → Way m₀ ev₀ (Shows k) m₁ shown →
+    Takes a m₂ (own.step m₁ next) → Way m₀ ev₀ a m₂ (shown ++ k ∷ [])
+way_goes_on m₀ ev₀ k m₁ shown a m₂ way t =
     let row : List ℕ = k ∷ [] in
     record {
       steps = suc way.steps;
@@ -116,7 +177,7 @@ way_goes_on m₀ ev₀ k m₁ shown a m₂ long way t =
       runs_on = λ n.
           ap (λ (j : ℕ). runs j own m₀ ev₀ []) (omega arith)
           ∙ (way.runs_on (suc n) ∙ (one_more way.from way.at way.rows k (suc n) (sym way.last.does) ∙ ap (λ (m : List ℕ). runs (suc n) own m next (way.rows ++ row ∷ [])) (sym way.last.leaves)));
-      last = taken m₁ next a m₂ long t;
+      last = t;
     }
 
 -- THE END
@@ -124,19 +185,12 @@ ends_done : (m : List ℕ) (ev : Event) (rs : List (List ℕ)) → (own.step m e
 unfolding runs one_act
 ends_done m ev rs is = rw is
 
--- the numbers of refusals are those of ends
-refusal_ends : (why : Refusal) → leb 1 (refusal_number why) && ltb (refusal_number why) 1000 ≡ true
-refusal_ends OutOfRange = refl
-refusal_ends NotKnown = refl
-refusal_ends NotThere = refl
-refusal_ends Taken = refl
-refusal_ends NoGround = refl
-refusal_ends NoRoom = refl
-
 ends_refused : (m : List ℕ) (ev : Event) (rs : List (List ℕ)) (why : Refusal) → (own.step m ev).act ≡ refused (refusal_number why) →
     runs 1 own m ev rs ≡ ran (own.step m ev).memory rs (refusal_number why)
 unfolding runs one_act
-ends_refused m ev rs why is = let t = refusal_ends why in rw (is, t)
+ends_refused m ev rs why is =
+    let t : leb 1 (refusal_number why) && ltb (refusal_number why) 1000 ≡ true = rw is at (own_fine m ev) in
+    rw (is, t)
 
 pub way_done : (m₀ : List ℕ) (ev₀ : Event) (m₁ shown : List ℕ) → Way m₀ ev₀ Done m₁ shown → Went m₀ ev₀ m₁ shown (Ok tt)
 unfolding Went
@@ -168,12 +222,11 @@ still (Shows n) m = suc (get_or m at_left 0)
 still Done m = 0
 still (Refused why) m = 0
 
-pub still_falls : (n : ℕ) (m : List ℕ) (a : code.Act) (m₁ : List ℕ) → length m ≡ memory_length → Takes a m₁ (acts m next) → still a m₁ < still (Shows n) m
+pub still_falls : (n : ℕ) (m : List ℕ) (a : code.Act) (m₁ : List ℕ) → length m ≡ memory_length → Takes a m₁ (own.step m next) → still a m₁ < still (Shows n) m
 unfolding Fewer
 still_falls n m (Shows k) m₁ long t =
-    let s = taken m next (Shows k) m₁ long t in
-    let f : get_or (own.step m next).memory at_left 0 < get_or m at_left 0 = next_fewer m long (k ∷ []) (sym s.does) in
-    let e = s.leaves in
+    let f : get_or (own.step m next).memory at_left 0 < get_or m at_left 0 = next_fewer m long (k ∷ []) (sym t.does) in
+    let e = t.leaves in
     rw e (omega arith)
 still_falls n m Done m₁ long t = omega arith
 still_falls n m (Refused why) m₁ long t = omega arith

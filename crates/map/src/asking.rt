@@ -1,13 +1,35 @@
 // Asking the machine, and going on till it has ended.
-ghost use Rattle.std.specs.Prelude.{◌≡◌, ℕ, true, List, [], ◌∷◌, ◌++◌, is_ok};
-ghost use Rattle.map.specs.Asking.{event_said, RanThrough};
+ghost use Rattle.std.specs.Prelude.{◌≡◌, ℕ, true, List, [], ◌∷◌, ◌++◌, length, is_ok};
+ghost use Rattle.map.specs.Machine.{own};
+ghost use Rattle.map.specs.Asking.{event_said, event_heard, RanThrough};
+ghost use Rattle.map.specs.Code.{Takes};
 
 use crate::act::Act;
 use crate::event::{Event, Request};
 use crate::failing::AskError;
-use crate::layout::Memory;
-use crate::machine::act;
+use crate::machine::{MOST_SHOWN, step};
+use crate::told::Told;
 use std::alloc::AllocError;
+use terms::Refusal;
+
+// Takes a step through the machine's one door, `step`, so that what is proved of that holds here.
+fn stepped(memory: &mut [u64], event: Event<'_>) -> Act
+    requires { length memory.old ≡ 262144 }
+    ensures { Takes result memory.new (own.step memory.old (event_heard event.entry)) }
+{
+    let (kind, a, b, c, row) = event.numbers();
+    let mut out = [0; MOST_SHOWN];
+    match step(memory, kind, a, b, c, row.numbers, &mut out) {
+        Told::Shows(_) => Act::Shows(out[0]),
+        Told::Done => Act::Done,
+        Told::No(number) => {
+            let Ok(why) = Refusal::try_from(number) else {
+                unreachable!()
+            };
+            Act::Refused(why)
+        }
+    }
+}
 
 // Adds a number to what was shown, as long as none found no room.
 fn keep(shown: &mut Vec<u64>, kept: Result<(), AllocError>, number: u64) -> Result<(), AllocError>
@@ -20,17 +42,18 @@ fn keep(shown: &mut Vec<u64>, kept: Result<(), AllocError>, number: u64) -> Resu
 
 // Goes on with a request till it has ended, and adds what is shown to `shown`. For want of memory something of that may be missing, and only of that.
 pub(crate) fn run(
-    memory: &mut Memory,
+    memory: &mut [u64],
     request: Request<'_>,
     shown: &mut Vec<u64>,
 ) -> Result<(), AskError>
+    requires { length memory.old ≡ 262144 }
     ensures { RanThrough memory.old (event_said request.entry) memory.new shown.old.items shown.new.items result }
 {
     let mut kept = Ok(());
-    let mut done = act(memory, Event::Asked(request));
+    let mut done = stepped(memory, Event::Asked(request));
     while let Act::Shows(number) = done {
         kept = keep(shown, kept, number);
-        done = act(memory, Event::GoOn);
+        done = stepped(memory, Event::GoOn);
     }
     kept?;
     match done {

@@ -16,7 +16,7 @@ use crate::told::Told;
 use terms::Refusal;
 
 // So many numbers are shown at once at most.
-const MOST_SHOWN: usize = 2;
+pub(crate) const MOST_SHOWN: usize = 2;
 
 // Whether a step can be taken with what was lent for it: a row as `Row::handed` takes it, and room for what is shown.
 fn fits(row: &[u64], out: &[u64]) -> bool
@@ -27,7 +27,7 @@ fn fits(row: &[u64], out: &[u64]) -> bool
 
 // What the machine does at an event.
 #[tactic(auto, unfolding(crate::specs::Machine::acts))]
-pub(crate) fn act(memory: &mut Memory, event: Event<'_>) -> Act
+fn act(memory: &mut Memory, event: Event<'_>) -> Act
     ensures { Takes result memory.new (acts memory.old (event_heard event.entry)) }
 {
     match event {

@@ -1,5 +1,5 @@
 // The machine with a memory of its own.
-ghost use Rattle.std.specs.Prelude.{◌≡◌, IfOk, length, vec_len};
+ghost use Rattle.std.specs.Prelude.{◌≡◌, IfOk, vec_len};
 ghost use Rattle.map.specs.Machine.{own};
 ghost use Rattle.map.specs.Asking.{event_said, RanThrough};
 
@@ -8,17 +8,6 @@ use crate::event::Request;
 use crate::failing::AskError;
 use crate::layout::MEMORY_LENGTH;
 use std::alloc::{AllocError, Global};
-
-// Runs a request in cells that are a memory. By itself, since no proof is found where a borrow is handed on twice in one function.
-fn run_in(cells: &mut [u64], request: Request<'_>, shown: &mut Vec<u64>) -> Result<(), AskError>
-    requires { length cells.old ≡ 262144 }
-    ensures { RanThrough cells.old (event_said request.entry) cells.new shown.old.items shown.new.items result }
-{
-    let Some(memory) = cells.as_mut_array::<MEMORY_LENGTH>() else {
-        unreachable!()
-    };
-    run(memory, request, shown)
-}
 
 // A map and all that it keeps: its memory always has the machine's length. It is no boxed array, since that would first stand on the stack.
 #[derive(Drop)]
@@ -40,6 +29,6 @@ impl Machine {
     pub fn ask(&mut self, request: Request<'_>, shown: &mut Vec<u64>) -> Result<(), AskError>
         ensures { RanThrough self.old.memory.items (event_said request.entry) self.new.memory.items shown.old.items shown.new.items result }
     {
-        run_in(self.memory.as_mut_slice(), request, shown)
+        run(self.memory.as_mut_slice(), request, shown)
     }
 }

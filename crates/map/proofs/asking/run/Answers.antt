@@ -1,5 +1,4 @@
-use Rattle.std.proofs.Common.{◌≡◌, ℕ, true, List, [], ◌∷◌, ◌++◌, length, is_ok, Err, Result, vec_items, refl, sym, append_assoc, append-nil, rules}
-use Rattle.map.specs.Sizes.{memory_length}
+use Rattle.std.proofs.Common.{◌≡◌, ℕ, true, List, [], ◌∷◌, ◌++◌, is_ok, Err, Result, vec_items, refl, sym, append_assoc, append-nil, rules}
 use Rattle.map.specs.Asking.{EndSaid, End, RanThrough}
 use Rattle.map.specs.declared.failing.AskError.{AskError}
 use Rattle.map.specs.declared.failing.AskError.TheVariants.{OutOfMemory}
@@ -10,12 +9,10 @@ wanting : (r : Result (Unit {0}) AskError) (e : End) (s t : List ℕ) → r ≡ 
 wanting r e s t h = rw h tt
 
 pub loop-done-init : goal.loop-done-init
-loop-done-init c =
-    let long : length c.args.memory.now ≡ memory_length = search rules in
-    (search rules, ([], [], sym (append-nil _), (λ _. refl), way_begins _ _ _ _ long c.act-done.ensures))
+loop-done-init c = (search rules, ([], [], sym (append-nil _), (λ _. refl), way_begins _ _ _ _ c.stepped-done.ensures))
 
 pub loop-done-smaller : goal.loop-done-smaller
-loop-done-smaller c = rw c.in-Shows.is (still_falls c.in-Shows.number _ _ _ c.loop-done.invariant.0 c.act-done-in-Shows.ensures)
+loop-done-smaller c = rw c.in-Shows.is (still_falls c.in-Shows.number _ _ _ c.loop-done.invariant.0 c.stepped-done-in-Shows.ensures)
 
 -- what was added is the number that was shown, as long as there was room for all
 pub loop-done-preserved : goal.loop-done-preserved
@@ -34,7 +31,7 @@ loop-done-preserved c =
             let before = w.3 both.0 in
             let now = both.1 in
             (cc)),
-        way_goes_on _ _ n _ _ _ _ c.loop-done.invariant.0 (way_named _ _ _ _ _ _ c.in-Shows.is w.4) c.act-done-in-Shows.ensures,
+        way_goes_on _ _ n _ _ _ _ (way_named _ _ _ _ _ _ c.in-Shows.is w.4) c.stepped-done-in-Shows.ensures,
       ),
     )
 

@@ -10,9 +10,9 @@ put_back n m rest e = subst (λ (k : ℕ). take k (m ++ rest) ≡ m) e (take-app
 -- the machine's memory before and after are those of the part that was lent
 pub returns : goal.returns
 returns c =
-    let m : List ℕ = c.run_in.new.cells in
-    let kept : length m ≡ c.args.self.now.memory.len = c.run_in.auto.cells ∙ c.as_mut_slice.ensures.len in
-    subst (λ (m₁ : List ℕ). RanThrough (vec_items c.args.self.now.memory) (event_said c.args.request) m₁ (vec_items c.args.shown.now) (vec_items c.run_in.new.shown) c.run_in.result)
+    let m : List ℕ = c.run.new.memory in
+    let kept : length m ≡ c.args.self.now.memory.len = c.run.auto.memory ∙ c.as_mut_slice.ensures.len in
+    subst (λ (m₁ : List ℕ). RanThrough (vec_items c.args.self.now.memory) (event_said c.args.request) m₁ (vec_items c.args.shown.now) (vec_items c.run.new.shown) c.run.result)
     (sym (put_back c.args.self.now.memory.len m (drop (length m) c.args.self.now.memory.items) kept))
-    (subst (λ (m₀ : List ℕ). RanThrough m₀ (event_said c.args.request) m (vec_items c.args.shown.now) (vec_items c.run_in.new.shown) c.run_in.result)
-    c.as_mut_slice.ensures.value c.run_in.ensures)
+    (subst (λ (m₀ : List ℕ). RanThrough m₀ (event_said c.args.request) m (vec_items c.args.shown.now) (vec_items c.run.new.shown) c.run.result)
+    c.as_mut_slice.ensures.value c.run.ensures)
