@@ -25,7 +25,8 @@ fn fits(row: &[u64], out: &[u64]) -> bool
     row.len() <= LONGEST_ROW && row.len() % 2 == 0 && out.len() >= MOST_SHOWN
 }
 
-// What the machine does at an event.
+// What the machine does at an event. Not inlined: within `step` its walk over the records would keep fewer of its numbers in registers.
+#[inline(never)]
 #[tactic(auto, unfolding(crate::specs::Machine::acts))]
 fn act(memory: &mut Memory, event: Event<'_>) -> Act
     ensures { Takes result memory.new (acts memory.old (event_heard event.entry)) }
