@@ -1,12 +1,10 @@
 -- What is answered to a command.
-use Rattle.std.specs.Prelude.{ℕ, cond, List, [], ◌∷◌, Some, None, Ok, Err, vec_items, Option, ◌==◌}
-use Rattle.map.specs.Asking.{End}
+use Rattle.std.specs.Prelude.{ℕ, cond, List, [], ◌∷◌, Some, None, Ok, Err, vec_items, Option, Result, ◌==◌}
 use Rattle.phrase.specs.Commands.{Said, put, drops, at_point, how_lie, all_that_lie, area_of, help, quit, nothing}
 use Rattle.phrase.specs.Numbers.{bind}
 use Rattle.phrase.specs.declared.answer.Answer.{Answer}
 use Rattle.phrase.specs.declared.answer.Answer.TheVariants.{Done, Refused, Point, Lie, AllLie, Area, NotUnderstood}
 use Rattle.phrase.specs.declared.answer.Neighbour.{Neighbour}
-use Rattle.terms.specs.Refusals.{refusal_number}
 use Rattle.terms.specs.declared.way.Way.{Way}
 use Rattle.terms.specs.declared.way.Way.TheVariants.{Apart, Touch, Within, Around, Same, Over}
 
@@ -23,7 +21,7 @@ pub data Reply : Type 0 where
 -- what an answer says: of a row, what is in it
 abbrev pub replied : Answer → Reply
 replied Done = done
-replied (Refused why) = refused (refusal_number why)
+replied (Refused reason) = refused reason
 replied (Point p grounds) = point p.a p.b p.w (vec_items grounds)
 replied (Lie first second way) = lie first second way
 replied (AllLie number rows) = all_lie number (vec_items rows)
@@ -75,7 +73,7 @@ told_of help shown = done
 told_of quit shown = done
 told_of nothing shown = done
 
--- to a command that ended so
-abbrev pub answer_of : Said → End → List ℕ → Reply
+-- to a command that ended so, as done or refused with a number
+abbrev pub answer_of : Said → Result (Unit {0}) ℕ → List ℕ → Reply
 answer_of c (Ok d) shown = told_of c shown
-answer_of c (Err why) shown = refused (refusal_number why)
+answer_of c (Err k) shown = refused k

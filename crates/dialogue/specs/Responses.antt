@@ -7,6 +7,7 @@ use Rattle.map.specs.declared.failing.AskError.{AskError}
 use Rattle.map.specs.declared.failing.AskError.TheVariants.{Refused, OutOfMemory}
 use Rattle.phrase.specs.Answers.{lie_line, all_lie_lines, point_line, area_line, unread_line}
 use Rattle.phrase.specs.Commands.{Said}
+use Rattle.terms.specs.Refusals.{refusal_number}
 use Rattle.dialogue.specs.Replies.{Reply, done, refused, point, lie, all_lie, area, unread, answer_of}
 
 abbrev pub reply_bytes : Reply → List ℕ
@@ -24,8 +25,13 @@ ended_as (Ok d) = Some (Ok tt)
 ended_as (Err (Refused why)) = Some (Err why)
 ended_as (Err OutOfMemory) = None
 
+-- an end, a refusal by its number
+abbrev pub by_number : End → Result (Unit {0}) ℕ
+by_number (Ok d) = Ok tt
+by_number (Err why) = Err (refusal_number why)
+
 -- The machine went on with what was asked till it ended so, after these numbers were shown, and the text is the answer to that. Where nothing is asked, the
 -- machine stays as it was, and there is no text. The text alone may be missing, for want of memory.
 abbrev pub Responded : {X : Type 0} → Option Event → Said → (memory memory₁ : List ℕ) → Result X AllocError → (X → List ℕ) → Type 0
 Responded None c m m₁ r f = (m₁ ≡ m) × IfOk r (λ x. f x ≡ [])
-Responded (Some ev) c m m₁ r f = (shown : List ℕ) × (e : End) × Went m ev m₁ shown e × IfOk r (λ x. f x ≡ reply_bytes (answer_of c e shown))
+Responded (Some ev) c m m₁ r f = (shown : List ℕ) × (e : End) × Went m ev m₁ shown e × IfOk r (λ x. f x ≡ reply_bytes (answer_of c (by_number e) shown))

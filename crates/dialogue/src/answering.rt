@@ -6,7 +6,7 @@ ghost use Rattle.dialogue.specs.Replies.{replied, way_told, all_told, neighbours
 use crate::neighbours::read_neighbours;
 use phrase::{Answer, Command};
 use std::alloc::{AllocError, Global};
-use terms::{Refusal, Way};
+use terms::Way;
 
 #[tactic(auto, using(crate::proofs::Pairing::way_found, crate::proofs::Pairing::no_way))]
 fn way_told(first: u64, second: u64, shown: &[u64]) -> Answer
@@ -42,17 +42,17 @@ fn area_told(number: u64, shown: &[u64]) -> Answer
     }
 }
 
-// The answer to a command that ended so, done or refused, after these numbers were shown.
+// The answer to a command that ended so, done or refused with a number, after these numbers were shown.
 pub fn answer_to(
     heap: Global,
     command: &Command,
-    ended: Result<(), Refusal>,
+    ended: Result<(), u64>,
     shown: Vec<u64>,
 ) -> Result<Answer, AllocError>
     ensures { IfOk result (λ a. replied a ≡ answer_of (said command.now) ended shown.items) }
 {
-    if let Err(why) = ended {
-        return Ok(Answer::Refused(why));
+    if let Err(reason) = ended {
+        return Ok(Answer::Refused { reason });
     }
     match command {
         Command::AtPoint(point) => Ok(Answer::Point {

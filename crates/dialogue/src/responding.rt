@@ -1,24 +1,24 @@
 // A command, asked of the machine, and its answer as text.
 ghost use Rattle.std.specs.Prelude.{◌≡◌, IfOk, MatchResult, Some, None, vec_items};
+ghost use Rattle.std.specs.Option.{option_map};
 ghost use Rattle.phrase.specs.Answers.{unread_line};
 ghost use Rattle.phrase.specs.Commands.{said};
 ghost use Rattle.dialogue.specs.Requests.{request_of};
-ghost use Rattle.dialogue.specs.Responses.{ended_as, Responded};
+ghost use Rattle.dialogue.specs.Responses.{ended_as, by_number, Responded};
 
 use crate::answering::answer_to;
 use crate::asking::request_of;
 use map::{AskError, Machine};
 use phrase::{Answer, Command, write_answer};
 use std::alloc::{AllocError, Global};
-use terms::Refusal;
 
-// How a request ended, where memory was not wanting.
-fn end_of(asked: Result<(), AskError>) -> Result<Result<(), Refusal>, AllocError>
-    ensures { MatchResult result (λ e. ended_as asked ≡ Some e) (λ _. ended_as asked ≡ None) }
+// How a request ended, where memory was not wanting: a refusal by its number.
+fn end_of(asked: Result<(), AskError>) -> Result<Result<(), u64>, AllocError>
+    ensures { MatchResult result (λ n. option_map by_number (ended_as asked) ≡ Some n) (λ _. ended_as asked ≡ None) }
 {
     match asked {
         Ok(()) => Ok(Ok(())),
-        Err(error) => Ok(Err(error.refusal()?)),
+        Err(error) => Ok(Err(u64::from(error.refusal()?))),
     }
 }
 

@@ -5,10 +5,8 @@ use Rattle.phrase.specs.declared.answer.Answer.{Answer}
 use Rattle.phrase.specs.declared.answer.Answer.TheVariants.{Done, Refused, Point, Lie, AllLie, Area, NotUnderstood}
 use Rattle.phrase.specs.declared.answer.Neighbour.{Neighbour}
 use Rattle.phrase.specs.Ratios.{ratio_text}
-use Rattle.terms.specs.declared.refusal.Refusal.{Refusal}
 use Rattle.terms.specs.declared.way.Way.{Way}
 use Rattle.terms.specs.declared.way.Way.TheVariants.{Apart, Touch, Within, Around, Same, Over}
-use Rattle.terms.specs.Refusals.{refusal_number}
 
 -- how the first and the second lie
 abbrev pub lie_line : ℕ → ℕ → Way → List ℕ
@@ -34,8 +32,9 @@ abbrev pub numbers_or_none : List ℕ → List ℕ
 numbers_or_none [] = codes "none"
 numbers_or_none (n ∷ ns) = decimal n ++ flat_map after_comma ns
 
-abbrev pub refused_line : Refusal → List ℕ
-refused_line why = codes "refused " ++ (decimal (refusal_number why) ++ codes "\n")
+-- any number can be the reason
+abbrev pub refused_line : ℕ → List ℕ
+refused_line reason = codes "refused " ++ (decimal reason ++ codes "\n")
 
 abbrev pub point_line : ℕ → ℕ → ℕ → List ℕ → List ℕ
 point_line a b w grounds = ratio_text a w ++ (codes " " ++ (ratio_text b w ++ (codes ": " ++ (numbers_or_none grounds ++ codes "\n"))))
@@ -49,7 +48,7 @@ unread_line line = codes "not understood: " ++ (line ++ codes "\n")
 -- each line ends in a newline
 abbrev pub answer_bytes : Answer → List ℕ
 answer_bytes Done = codes "done\n"
-answer_bytes (Refused why) = refused_line why
+answer_bytes (Refused reason) = refused_line reason
 answer_bytes (Point p grounds) = point_line p.a p.b p.w (vec_items grounds)
 answer_bytes (Lie first second way) = lie_line first second way
 answer_bytes (AllLie number rows) = all_lie_lines number (vec_items rows)

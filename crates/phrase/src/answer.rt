@@ -1,5 +1,5 @@
 // What is answered.
-use terms::{Point, Refusal, Way};
+use terms::{Point, Way};
 
 // Another ground, and how a ground lies to it.
 #[derive(Clone, Copy, PartialEq, Eq, Debug)]
@@ -12,7 +12,7 @@ pub struct Neighbour {
 #[derive(PartialEq, Eq, Debug, Drop)]
 pub enum Answer {
     Done,
-    Refused(Refusal),
+    Refused { reason: u64 },
     // A point, and the grounds that it is in.
     Point { point: Point, grounds: Vec<u64> },
     Lie { first: u64, second: u64, way: Way },

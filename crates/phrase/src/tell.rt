@@ -6,7 +6,7 @@ use crate::answer::{Answer, Neighbour};
 use crate::ratio::Ratio;
 use std::alloc::{AllocError, Global};
 use std::fmt;
-use terms::{Point, Refusal, Way};
+use terms::{Point, Way};
 
 // How the first and the second lie, as a line.
 #[derive(Clone, Copy, PartialEq, Eq, Debug)]
@@ -78,10 +78,9 @@ impl fmt::Display for Numbers<'_> {
     }
 }
 
-fn refused_text(heap: Global, refusal: Refusal) -> Result<String, AllocError>
-    ensures { IfOk result (λ s. string_bytes s ≡ refused_line refusal) }
+fn refused_text(heap: Global, reason: u64) -> Result<String, AllocError>
+    ensures { IfOk result (λ s. string_bytes s ≡ refused_line reason) }
 {
-    let reason = u64::from(refusal);
     format!(in heap; "refused {reason}\n")
 }
 
@@ -130,7 +129,7 @@ pub fn write_answer(heap: Global, answer: &Answer) -> Result<Vec<u8>, AllocError
 {
     match answer {
         Answer::Done => Vec::from_slice(heap, b"done\n"),
-        Answer::Refused(refusal) => Ok(refused_text(heap, *refusal)?.into_bytes()),
+        Answer::Refused { reason } => Ok(refused_text(heap, *reason)?.into_bytes()),
         Answer::Point { point, grounds } => {
             Ok(point_text(heap, *point, grounds.as_slice())?.into_bytes())
         }
