@@ -13,20 +13,20 @@ use std::alloc::Global;
 fn read_name(text: &[u8]) -> Option<Name>
     ensures { result ≡ name text.now }
 {
-    match str::from_utf8(text).ok()? {
-        "put" => Some(Name::Put),
-        "drop" => Some(Name::Drop),
-        "at" => Some(Name::At),
-        "point" => Some(Name::Point),
-        "how" => Some(Name::How),
-        "lie" => Some(Name::Lie),
-        "all" => Some(Name::All),
-        "that" => Some(Name::That),
-        "on" => Some(Name::On),
-        "area" => Some(Name::Area),
-        "of" => Some(Name::Of),
-        "help" => Some(Name::Help),
-        "quit" => Some(Name::Quit),
+    match text {
+        b"put" => Some(Name::Put),
+        b"drop" => Some(Name::Drop),
+        b"at" => Some(Name::At),
+        b"point" => Some(Name::Point),
+        b"how" => Some(Name::How),
+        b"lie" => Some(Name::Lie),
+        b"all" => Some(Name::All),
+        b"that" => Some(Name::That),
+        b"on" => Some(Name::On),
+        b"area" => Some(Name::Area),
+        b"of" => Some(Name::Of),
+        b"help" => Some(Name::Help),
+        b"quit" => Some(Name::Quit),
         _ => None,
     }
 }
