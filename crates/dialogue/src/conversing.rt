@@ -3,6 +3,7 @@ use crate::help::HELP;
 use crate::outcome::Outcome;
 use crate::replying::reply_to;
 use map::Machine;
+use phrase::lines;
 use std::alloc::Global;
 use std::io::{BufRead, BufReader, Write};
 
@@ -13,7 +14,7 @@ fn answer_lines<R: BufRead + Drop, W: Write>(
     input: R,
     out: &mut W,
 ) -> anyhow::Result<()> {
-    for line in input.split(heap, b'\n') {
+    for line in lines(heap, input) {
         match reply_to(heap, machine, line?.as_slice())? {
             Outcome::Text(text) => out.write_all(text.as_slice())?,
             Outcome::Help => out.write_all(HELP)?,

@@ -10,6 +10,7 @@ pub mod Greatest
 pub mod Lowest
 pub mod Marks
 pub mod Names
+mod Pieces
 pub mod Ranks
 pub mod ReadBack
 pub mod Rows

@@ -33,7 +33,7 @@ pub use answer::{Answer, Neighbour};
 pub use command::Command;
 pub use fault::NotUnderstood;
 pub use laws::{common_divisor_is_greatest, decimal_places_are_exact, written_is_read_back};
-pub use line::{without_comment, without_newline};
+pub use line::{lines, without_comment, without_newline};
 pub use number::{BadDigits, digits_after};
 pub use read::read_command;
 pub use say::write_command;

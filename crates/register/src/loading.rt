@@ -1,9 +1,10 @@
 // Reading the file of a register, line by line.
 use crate::book::{Book, NotTaken};
 use crate::options::{Mode, Options};
+use phrase::lines;
 use std::fs::File;
 use std::io;
-use std::io::{BufRead, BufReader};
+use std::io::BufReader;
 
 // After so many lines it is told how far it is.
 const LINES_TOLD: u64 = 5000;
@@ -31,7 +32,7 @@ fn sum_up(rt: &HostRuntime, mode: Mode, book: &Book) -> io::Result<()> {
 pub(crate) fn load(rt: &HostRuntime, options: &Options, book: &mut Book) -> anyhow::Result<()> {
     let heap = rt.alloc();
     let input = BufReader::new(heap, File::open(rt, options.file.as_str())?)?;
-    for (count, line) in (1u64..).zip(input.split(heap, b'\n')) {
+    for (count, line) in (1u64..).zip(lines(heap, input)) {
         match book.take(heap, line?.as_slice()) {
             Ok(()) => {}
             Err(NotTaken::OutOfMemory(none)) => return Err(none.into()),

@@ -1,9 +1,9 @@
 // Each line of standard input as it is read: the usual form of its command, or `?` where it is none. The gate runs it over a table of odd lines.
 #![tactic(auto)]
 
-use phrase::{NotUnderstood, read_command};
+use phrase::{NotUnderstood, lines, read_command};
 use std::alloc::AllocError;
-use std::io::{BufRead, BufReader};
+use std::io::BufReader;
 
 fn tell(rt: &HostRuntime, line: &[u8]) -> anyhow::Result<()> {
     match read_command(rt.alloc(), line) {
@@ -16,7 +16,7 @@ fn tell(rt: &HostRuntime, line: &[u8]) -> anyhow::Result<()> {
 
 fn run(rt: &HostRuntime) -> anyhow::Result<()> {
     let heap = rt.alloc();
-    for line in BufReader::new(heap, rt.stdin())?.split(heap, b'\n') {
+    for line in lines(heap, BufReader::new(heap, rt.stdin())?) {
         tell(rt, line?.as_slice())?;
     }
     Ok(())
