@@ -18,7 +18,7 @@ fn put(
     row: &[u64],
 ) -> Result<(), Problem> {
     if let Err(error) = chart.put(number, row) {
-        let why = refusal_text(rt.alloc(), error.refusal()?, number, row)?;
+        let why = refusal_text(rt.alloc(), u64::from(error.refusal()?), number, row)?;
         eprintln!(rt; "draw: line {place}: ground {number}: {why}")?;
     }
     Ok(())

@@ -52,7 +52,7 @@ impl Book {
             row: row.as_slice(),
         };
         if let Err(error) = self.machine.ask(request, &mut shown) {
-            let why = refusal_text(heap, error.refusal()?, number, row.as_slice())?;
+            let why = refusal_text(heap, u64::from(error.refusal()?), number, row.as_slice())?;
             return Err(NotTaken::Refused { number, why });
         }
         self.corners = self.corners.saturating_add(row.len() as u64 / 2);
