@@ -1,7 +1,10 @@
--- Cutting a line into marks, byte by byte.
-use Rattle.std.proofs.Common.{◌≡◌, ℕ, ◌+◌, ◌<◌, ◌≤◌, true, false, List, [], ◌∷◌, ◌++◌, length, get_or, drop, Some, None, Ok, Err, Option, Result, sym, refl, ap, ◌∙◌}
-use Rattle.std.proofs.lemmas.List.{drop_more, drop_all}
-use Rattle.std.proofs.lemmas.Bool.{cond-true, cond-false}
+-- Cutting a line into marks, word by word.
+use Rattle.std.proofs.Common.{◌≡◌, ℕ, zero, suc, ◌+◌, ◌<◌, ◌≤◌, Bool, true, false, cond, ltb, List, [], ◌∷◌, ◌++◌, length, get_or, take, drop, position, Some, None, Ok, Err, Option, Result, sym, refl, ap, ◌∙◌, append_assoc, append-nil, arith}
+use Rattle.std.specs.List.{position_or_len}
+use Rattle.std.proofs.lemmas.List.{drop_more, drop_all, take_all}
+use Rattle.std.proofs.lemmas.List.Quantifiers.{position-Some}
+use Rattle.std.proofs.lemmas.List.Sums.{fails_before_first}
+use Rattle.std.proofs.lemmas.Bool.{cond-true, cond-false, ltb-false}
 use Rattle.entries.specs.declared.fault.Fault.{Fault}
 use Rattle.entries.specs.declared.fault.ReadError.{ReadError}
 use Rattle.entries.specs.declared.fault.ReadError.TheVariants.{Wrong, OutOfMemory}
@@ -23,6 +26,32 @@ pub marks_on : (w : List ℕ) (b : ℕ) (bs : List ℕ) → separates b ≡ fals
 unfolding marks
 marks_on w b bs h = cond-false _ _ _ h
 
+-- bytes of which none separates go on with the word
+marks_along : (w text : List ℕ) (n : ℕ) → ((k : ℕ) → k < n → separates (get_or text k 0) ≡ false) → marks w text ≡ marks (w ++ take n text) (drop n text)
+marks_along w text zero h = ap (λ v. marks v text) (sym (append-nil w))
+marks_along w [] (suc n) h = ap (λ v. marks v []) (sym (append-nil w))
+marks_along w (b ∷ bs) (suc n) h =
+    marks_on w b bs (h 0 (omega arith)) ∙ marks_along (w ++ (b ∷ [])) bs n (λ k l. h (suc k) (omega arith)) ∙ ap (λ v. marks v (drop n bs)) (append_assoc w (b ∷ []) (take n bs))
+
+-- the first that separates ends a word
+cut_there : (text : List ℕ) (n : ℕ) → ◌≡◌ (Some n) (position separates text) → marks [] text ≡ closed (take n text) (signed (sign (get_or text n 0)) (marks [] (drop (n + 1) text)))
+cut_there text n h =
+    let at = position-Some separates text n 0 (sym h) in
+    marks_along [] text n at.2 ∙ ap (marks (take n text)) (drop_more text n 0 at.0) ∙ marks_separated _ _ _ at.1
+
+no_place : (b : Bool) (k : ℕ) → ◌≡◌ None (cond b (Some k) None) → b ≡ false
+no_place true k h = cc
+no_place false k h = refl
+
+-- where none separates, all is one word
+one_word : (text : List ℕ) → ◌≡◌ None (position separates text) → marks [] text ≡ closed text (Ok [])
+one_word text h =
+    let past : length text ≤ position_or_len separates text = ltb-false _ _ (no_place (ltb (position_or_len separates text) (length text)) (position_or_len separates text) h) in
+    marks_along [] text (length text) (λ k l. fails_before_first separates text k 0 (omega arith))
+    ∙ ap (λ v. marks v (drop (length text) text)) (take_all (length text) text (omega arith))
+    ∙ ap (marks text) (drop_all (length text) text (omega arith))
+    ∙ marks_end text
+
 -- a word that was closed stands before what is still to be read
 closed_ok : (w : List ℕ) (rest : Result (List Mark) Fault) (xs ys : List Mark) → Closes (Ok tt) w xs ys → prefixed xs (closed w rest) ≡ prefixed ys rest
 closed_ok [] rest xs ys h = ap (λ l. prefixed l rest) (sym h)
@@ -39,32 +68,24 @@ closed_not (Wrong fault) [] rest xs ys all f h eq = absurd h
 closed_not (Wrong fault) (b ∷ w) rest xs ys all f h eq = sym eq ∙ ap (λ o. prefixed xs (then o (λ m. before m rest))) h
 closed_not OutOfMemory w rest xs ys all f h eq = tt
 
--- Below, w is a word that is being read, and bs what comes behind it; all is what the whole text is.
-abbrev Left : List Mark → List ℕ → List ℕ → Result (List Mark) Fault → Type 0
-Left xs w bs all = prefixed xs (marks w bs) ≡ all
+-- Below, rest is what was not cut yet; all is what the whole text is.
+module _ (rest : List ℕ) (n : ℕ) (xs : List Mark) (all : Result (List Mark) Fault) (there : ◌≡◌ (Some n) (position separates rest)) (left : prefixed xs (marks [] rest) ≡ all) where
+  at_separator : prefixed xs (closed (take n rest) (signed (sign (get_or rest n 0)) (marks [] (drop (n + 1) rest)))) ≡ all
+  at_separator = ap (prefixed xs) (sym (cut_there rest n there)) ∙ left
 
-module _ (text w : List ℕ) (i : ℕ) (xs : List Mark) (all : Result (List Mark) Fault) (within : i < length text) (left : Left xs w (drop i text) all) where
-  -- a separator closes the word
-  at_separator : true ≡ separates (get_or text i 0) → prefixed xs (closed w (signed (sign (get_or text i 0)) (marks [] (drop (i + 1) text)))) ≡ all
-  at_separator e = ap (prefixed xs) (sym (ap (marks w) (drop_more text i 0 within) ∙ marks_separated _ _ _ (sym e))) ∙ left
+  pub word_ends : (ys zs : List Mark) → Closes (Ok tt) (take n rest) xs ys → Signs (Ok tt) (sign (get_or rest n 0)) ys zs → prefixed zs (marks [] (drop (n + 1) rest)) ≡ all
+  word_ends ys zs h g =
+      sym (signed_ok (sign (get_or rest n 0)) (marks [] (drop (n + 1) rest)) ys zs g) ∙ sym (closed_ok (take n rest) _ xs ys h) ∙ at_separator
 
-  pub word_ends : (ys zs : List Mark) → true ≡ separates (get_or text i 0) → Closes (Ok tt) w xs ys → Signs (Ok tt) (sign (get_or text i 0)) ys zs → Left zs [] (drop (i + 1) text) all
-  word_ends ys zs e h g =
-      sym (signed_ok (sign (get_or text i 0)) (marks [] (drop (i + 1) text)) ys zs g) ∙ sym (closed_ok w _ xs ys h) ∙ at_separator e
+  pub word_fails : (e : ReadError) (ys : List Mark) {X : Type 0} (f : X → List Mark) → Closes (Err e) (take n rest) xs ys → Reads (Err e) all f
+  word_fails e ys f h = closed_not e (take n rest) (signed (sign (get_or rest n 0)) (marks [] (drop (n + 1) rest))) xs ys all f h at_separator
 
-  pub word_fails : (e : ReadError) (ys : List Mark) {X : Type 0} (f : X → List Mark) → true ≡ separates (get_or text i 0) → Closes (Err e) w xs ys → Reads (Err e) all f
-  word_fails e ys f s h = closed_not e w (signed (sign (get_or text i 0)) (marks [] (drop (i + 1) text))) xs ys all f h (at_separator s)
+module _ (rest : List ℕ) (xs : List Mark) (all : Result (List Mark) Fault) (none : ◌≡◌ None (position separates rest)) (left : prefixed xs (marks [] rest) ≡ all) where
+  at_end : prefixed xs (closed rest (Ok [])) ≡ all
+  at_end = ap (prefixed xs) (sym (one_word rest none)) ∙ left
 
-  -- another byte belongs to the word
-  pub word_goes_on : false ≡ separates (get_or text i 0) → Left xs (w ++ (get_or text i 0 ∷ [])) (drop (i + 1) text) all
-  word_goes_on e = ap (prefixed xs) (sym (ap (marks w) (drop_more text i 0 within) ∙ marks_on _ _ _ (sym e))) ∙ left
+  pub last_ends : (ys : List Mark) → Closes (Ok tt) rest xs ys → all ≡ Ok ys
+  last_ends ys h = sym at_end ∙ closed_ok rest _ xs ys h ∙ nothing_more ys
 
-module _ (text w : List ℕ) (i : ℕ) (xs : List Mark) (all : Result (List Mark) Fault) (past : length text ≤ i) (left : Left xs w (drop i text) all) where
-  at_end : prefixed xs (closed w (Ok [])) ≡ all
-  at_end = ap (prefixed xs) (sym (ap (marks w) (drop_all i text past) ∙ marks_end _)) ∙ left
-
-  pub last_ends : (ys : List Mark) → Closes (Ok tt) w xs ys → all ≡ Ok ys
-  last_ends ys h = sym at_end ∙ closed_ok w _ xs ys h ∙ nothing_more ys
-
-  pub last_fails : (e : ReadError) (ys : List Mark) {X : Type 0} (f : X → List Mark) → Closes (Err e) w xs ys → Reads (Err e) all f
-  last_fails e ys f h = closed_not e w (Ok []) xs ys all f h at_end
+  pub last_fails : (e : ReadError) (ys : List Mark) {X : Type 0} (f : X → List Mark) → Closes (Err e) rest xs ys → Reads (Err e) all f
+  last_fails e ys f h = closed_not e rest (Ok []) xs ys all f h at_end

@@ -1,5 +1,5 @@
 // A line cut into its marks.
-ghost use Rattle.std.specs.Prelude.{◌≡◌, []};
+ghost use Rattle.std.specs.Prelude.{◌≡◌, [], position};
 ghost use Rattle.phrase.specs.Words.{plain};
 ghost use Rattle.entries.specs.Marks.{sign, separates, marks};
 ghost use Rattle.entries.specs.Reading.{Reads, Closes, Signs};
@@ -49,22 +49,25 @@ fn add_sign(marks: &mut Vec<Mark>, b: u8) -> Result<(), ReadError>
     Ok(())
 }
 
-// Every mark of a text without a comment. A word is gathered byte by byte: `split_inclusive` was tried, and its goals stayed open.
+// Where the first byte stands before which a word ends.
+fn separator_at(text: &[u8]) -> Option<usize>
+    ensures { result ≡ position separates text.now }
+{
+    text.iter().position(|b| separates(*b))
+}
+
+// Every mark of a text without a comment. The text is taken apart as slices: no iterator gives a word and the sign behind it.
 fn cut_marks(heap: Global, text: &[u8]) -> Result<Vec<Mark>, ReadError>
     ensures { Reads result (marks [] text.now) (λ v. v.items) }
 {
     let mut marks = Vec::new(heap);
-    let mut word = Vec::new(heap);
-    for b in text {
-        if !separates(*b) {
-            word.push(*b)?;
-            continue;
-        }
-        close(&mut marks, word.as_slice())?;
-        add_sign(&mut marks, *b)?;
-        word.clear();
+    let mut rest = text;
+    while let Some(n) = separator_at(rest) {
+        close(&mut marks, &rest[..n])?;
+        add_sign(&mut marks, rest[n])?;
+        rest = &rest[n + 1..];
     }
-    close(&mut marks, word.as_slice())?;
+    close(&mut marks, rest)?;
     Ok(marks)
 }
 
