@@ -130,13 +130,13 @@ pub takes_refused : (m : List ℕ) (ev : Event) (k : ℕ) (why : Refusal) (m₁ 
     Takes (code.Refused why) m₁ (own.step m ev)
 takes_refused m ev k why m₁ out out₁ s e = record { leaves = s.0; does = ap (λ (n : ℕ). refused n) e ∙ refused_act (own.step m ev).act k out out₁ s.1 }
 
-named_act : (a : Act) (k : ℕ) → refused k ≡ act_of a → (why : Refusal) × (refusal_number why ≡ k)
-named_act (code.Shows n) k e = absurd (cc)
-named_act code.Done k e = absurd (cc)
-named_act (code.Refused why) k e = (why, (cc))
+named_refusal : (a : Act) (k : ℕ) → refused k ≡ act_of a → (why : Refusal) × (refusal_number why ≡ k)
+named_refusal (code.Shows n) k e = absurd (cc)
+named_refusal code.Done k e = absurd (cc)
+named_refusal (code.Refused why) k e = (why, (cc))
 
 -- no other numbers are told than those of refusals
-pub named : (m : List ℕ) (ev : Event) (k : ℕ) (m₁ out out₁ : List ℕ) → Stepped m ev (No k) m₁ out out₁ → (why : Refusal) × (refusal_number why ≡ k)
-named m ev k m₁ out out₁ s =
+pub refusal_told : (m : List ℕ) (ev : Event) (k : ℕ) (m₁ out out₁ : List ℕ) → Stepped m ev (No k) m₁ out out₁ → (why : Refusal) × (refusal_number why ≡ k)
+refusal_told m ev k m₁ out out₁ s =
     let w = own_act m ev in
-    named_act w.0 k (refused_act (own.step m ev).act k out out₁ s.1 ∙ sym w.1)
+    named_refusal w.0 k (refused_act (own.step m ev).act k out out₁ s.1 ∙ sym w.1)

@@ -12,7 +12,7 @@ use crate::told::Told;
 use std::alloc::AllocError;
 use terms::Refusal;
 
-// Takes a step through the machine's one door, `step`, so that what is proved of that holds here.
+// Takes a step by `step`, the one entry to the machine, so that what is proved of it holds of each request. It tells by numbers, which are read back.
 fn stepped(memory: &mut [u64], event: Event<'_>) -> Act
     requires { length memory.old ≡ 262144 }
     ensures { Takes result memory.new (own.step memory.old (event_heard event.entry)) }

@@ -1,10 +1,10 @@
 use Rattle.std.proofs.Common.{rules}
-use Rattle.map.proofs.Steps.{step_of, takes_row, takes_done, takes_refused, named}
+use Rattle.map.proofs.Steps.{step_of, takes_row, takes_done, takes_refused, refusal_told}
 use Rattle.map.proofs.asking.stepped.Goals as goal
 
 pub unreachable-requires : goal.unreachable-requires
 unreachable-requires c =
-    let w = named _ _ _ _ _ _ (step_of _ _ _ _ _ _ _ _ _ _ _ c.requires c.numbers-kind.ensures.0 (search rules) (search rules) (search rules) c.numbers-kind.ensures.1 c.in-No.ensures) in
+    let w = refusal_told _ _ _ _ _ _ (step_of _ _ _ _ _ _ _ _ _ _ _ c.requires c.numbers-kind.ensures.0 (search rules) (search rules) (search rules) c.numbers-kind.ensures.1 c.in-No.ensures) in
     c.in_default.ensures.1 w.0 w.1
 
 pub returns-in-Shows : goal.returns-in-Shows
