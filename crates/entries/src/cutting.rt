@@ -29,7 +29,8 @@ fn separates(b: u8) -> bool
     b == b' ' || b == b'\t' || sign(b).is_some()
 }
 
-// Adds the word that ends here, if there is one. A function of phrase is as short over its own words: a shared one would take what is read as a closure.
+// Adds the word that ends here, if there is one. A function of phrase is as short over its own words: a shared one would take what is read as a closure. It is taken into its callers, since in a row of spaces most end no word.
+#[inline(always)]
 fn close(marks: &mut Vec<Mark>, text: &[u8]) -> Result<(), ReadError>
     ensures { Closes result text.now marks.old.items marks.new.items }
 {
@@ -56,7 +57,7 @@ fn separator_at(text: &[u8]) -> Option<usize>
     text.iter().position(|b| separates(*b))
 }
 
-// Every mark of a text without a comment. The text is taken apart as slices: no iterator gives a word and the sign behind it.
+// Every mark of a text without a comment. The text is taken apart as slices: `split_inclusive`, which gives a word with the sign behind it, was tried, and its goals stayed open.
 fn cut_marks(heap: Global, text: &[u8]) -> Result<Vec<Mark>, ReadError>
     ensures { Reads result (marks [] text.now) (λ v. v.items) }
 {
